@@ -1,0 +1,4 @@
+pub mod Caps
+pub mod Refusals
+pub mod Views
+pub mod Calls

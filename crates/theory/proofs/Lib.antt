@@ -1,0 +1,4 @@
+pub mod Standing
+pub mod Growing
+pub mod Histories
+pub mod Decided
