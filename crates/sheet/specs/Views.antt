@@ -7,7 +7,7 @@ use Rattle.std.specs.declared.option.Option.the-variants.{Some, None}
 use Rattle.sheet.specs.declared.names.Timing as program
 use Rattle.sheet.specs.declared.row.Row.{Row}
 use Rattle.sheet.specs.declared.table.Sheet.{Sheet}
-use Rattle.theory.specs.Figures.{Timing, Figures, Table, within}
+use Rattle.theory.specs.Figures.{Timing, Figures, Table, priorities, within}
 
 abbrev pub timing-of : program.Timing → Timing
 timing-of w = record { c = w .«run_time»; t = w .separation; d = w .deadline }
@@ -18,4 +18,4 @@ figures (Some r) = Some (record { timing = timing-of (r .timing); limit = r .«c
 
 -- the row at each priority; there is none outside 1 to 32
 abbrev pub table-of : Sheet → Table
-table-of s p = cond (within 32 p) (figures (getD (s .rows) (p - 1) None)) None
+table-of s p = cond (within priorities p) (figures (getD (s .rows) (p - 1) None)) None

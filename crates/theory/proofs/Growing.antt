@@ -10,7 +10,7 @@ use mathlib.Core.Path.{_≡_, refl, sym, ap, subst, _∙_}
 use lib.Dec.{eqb}
 use Rattle.std.specs.declared.option.Option.{Option}
 use Rattle.std.specs.declared.option.Option.the-variants.{Some, None}
-use Rattle.theory.specs.Figures.{Timing, Figures, Table, Fault, fault, is-row, with-row, within}
+use Rattle.theory.specs.Figures.{Timing, Figures, Table, Fault, fault, is-row, with-row, priorities, within}
 use Rattle.theory.specs.Edits.{Edit, enter, strike, limit, unless, refusal, capped, left-by}
 use Rattle.theory.specs.History.{Uncapped, LastCap, Stands}
 use Rattle.theory.proofs.Standing.{Row-is}
@@ -147,8 +147,8 @@ never-none true x y h = let z : _≡_ {A = ℕ} 0 1 = cc in omega arith
 never-none false x y h = let z : _≡_ {A = ℕ} 0 1 = cc in omega arith
 
 row-capped : (A : ℕ → Edit → Type 0) (n p k : ℕ) → A n (limit p k) → ((y : Edit) → A n y → y ≡ limit p k) → (o : Option Figures) →
-    unless (within 32 p) 2 p (unless (is-row o) 6 p (unless (within p k) 7 p None)) ≡ None → Row-is A n p o → Row-is A (n + 1) p (capped k o)
-row-capped A n p k here only None r h = absurd (never-none (within 32 p) _ _ r)
+    unless (within priorities p) 2 p (unless (is-row o) 6 p (unless (within p k) 7 p None)) ≡ None → Row-is A n p o → Row-is A (n + 1) p (capped k o)
+row-capped A n p k here only None r h = absurd (never-none (within priorities p) _ _ r)
 row-capped A n p k here only (Some f) r h = stands-cap A n (limit p k) here only p k refl f h
 
 -- the rows after an accepted edit

@@ -1,3 +1,4 @@
+pub mod Entries
 pub mod Standing
 pub mod Growing
 pub mod Histories

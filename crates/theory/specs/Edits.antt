@@ -4,7 +4,7 @@ use mathlib.Core.Bool.{Bool, cond}
 use mathlib.Core.Path.{_≡_}
 use Rattle.std.specs.declared.option.Option.{Option}
 use Rattle.std.specs.declared.option.Option.the-variants.{Some, None}
-use Rattle.theory.specs.Figures.{Timing, Figures, Table, Fault, fault, is-row, with-row, within}
+use Rattle.theory.specs.Figures.{Timing, Figures, Table, Fault, fault, is-row, with-row, priorities, run-time-top, ticks-top, within}
 
 pub data Edit : Type 0 where
   enter : ℕ → Timing → Edit    -- a row with this timing at this priority
@@ -18,15 +18,15 @@ unless rule n p rest = cond rule rest (Some (fault n p))
 -- Why an edit is refused in a sheet: the rule with the smallest number that it breaks, if any.
 abbrev pub refusal : Edit → Table → Option Fault
 refusal (enter p w) rows =
-    unless (within 32 p) 2 p
-    (unless (within 16777215 (w .c)) 3 p
-    (unless (within 100000000 (w .t)) 4 p
-    (unless (within 100000000 (w .d)) 5 p None)))
+    unless (within priorities p) 2 p
+    (unless (within run-time-top (w .c)) 3 p
+    (unless (within ticks-top (w .t)) 4 p
+    (unless (within ticks-top (w .d)) 5 p None)))
 refusal (strike p) rows =
-    unless (within 32 p) 2 p
+    unless (within priorities p) 2 p
     (unless (is-row (rows p)) 6 p None)
 refusal (limit p k) rows =
-    unless (within 32 p) 2 p
+    unless (within priorities p) 2 p
     (unless (is-row (rows p)) 6 p
     (unless (within p k) 7 p None))
 

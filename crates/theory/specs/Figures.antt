@@ -1,6 +1,7 @@
 -- Rows, sheets and refusals in plain figures. Every other definition speaks of these.
-use Prim.Native.Nat.{ℕ}
+use Prim.Native.Nat.{ℕ, _≤_}
 use mathlib.Core.Bool.{Bool, true, false, cond, _&&_}
+use mathlib.Core.Path.{_≡_}
 use lib.Dec.{leb, eqb}
 use Rattle.std.specs.declared.option.Option.{Option}
 use Rattle.std.specs.declared.option.Option.the-variants.{Some, None}
@@ -28,9 +29,34 @@ is-row (Some f) = true
 abbrev pub with-row : ℕ → Option Figures → Table → Table
 with-row p o rows q = cond (eqb q p) o (rows q)
 
--- n is from 1 to top
+-- the least urgent priority, and the greatest run time, distance and deadline in ticks
+abbrev pub priorities : ℕ
+priorities = 32
+
+abbrev pub run-time-top : ℕ
+run-time-top = 16777215
+
+abbrev pub ticks-top : ℕ
+ticks-top = 100000000
+
+-- n is from 1 to top, as a test and as a fact
 abbrev pub within : ℕ → ℕ → Bool
 within top n = leb 1 n && leb n top
+
+abbrev pub Within : ℕ → ℕ → Type 0
+Within top n = (1 ≤ n) × (n ≤ top)
+
+-- the ranges of the row f at priority p
+pub record InRange (p : ℕ) (f : Figures) : Type 0 where
+  pub priority : Within priorities p
+  pub runs : Within run-time-top (f .timing .c)
+  pub apart : Within ticks-top (f .timing .t)
+  pub due : Within ticks-top (f .timing .d)
+  pub capped : Within p (f .limit)
+
+-- no row of the sheet is out of range
+abbrev pub Sound : Table → Type 0
+Sound rows = (p : ℕ) (f : Figures) → rows p ≡ Some f → InRange p f
 
 -- a refusal: which rule was broken, and where
 pub record Fault : Type 0 where

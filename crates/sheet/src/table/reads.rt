@@ -1,8 +1,12 @@
 ghost use Prim.Native.Nat.{ℕ};
 ghost use mathlib.Core.Path.{_≡_};
 ghost use Rattle.std.specs.declared.option.Option.the-variants.{None};
+ghost use Rattle.theory.specs.Columns.{fits-at, ColumnAnswer};
+ghost use Rattle.theory.specs.Figures.{Sound};
+ghost use Rattle.sheet.specs.Refusals.{refused};
 ghost use Rattle.sheet.specs.Views.{figures, table-of};
 use super::super::names::Priority;
+use super::super::refusal::Refusal;
 use super::super::row::Row;
 use super::Sheet;
 
@@ -16,11 +20,37 @@ impl Sheet {
 
     /// The row at a priority; none where there is none, and none outside 1 to 32.
     pub fn row(&self, p: Priority) -> Option<Row>
-        ensures { λ r. ⌜ figures r ≡ table-of (now (self .entry)) (p .0) ⌝ }
+        ensures value { λ r. ⌜ figures r ≡ table-of (now (self .entry)) (p .0) ⌝ }
+        ensures sound { λ _. ⌜ Sound (table-of (now (self .entry))) ⌝ }
     {
         if p.0 < 1 || p.0 > 32 {
             return None;
         }
         self.rows[p.0 as usize - 1]
+    }
+
+    // Whether the entry q fits at p.
+    fn entry_fits(&self, p: Priority, q: u8) -> bool
+        ensures { λ r. ⌜ r ≡ fits-at (table-of (now (self .entry))) (p .0) q ⌝ }
+    {
+        match self.row(p) {
+            None => q == 0,
+            Some(row) => row.cap.0 <= q && q <= p.0 && self.row(Priority(q)).is_some(),
+        }
+    }
+
+    /// Whether a column of thresholds fits the sheet. Only its first 32 entries are read.
+    pub fn check_column(&self, column: &[u8]) -> Result<(), Refusal>
+        ensures { λ r. ⌜ ColumnAnswer (table-of (now (self .entry))) (now (column .entry)) (refused r) ⌝ }
+    {
+        if column.len() < 32 {
+            return Err(Refusal::ListTooShort);
+        }
+        for p in 1..=32u8 {
+            if !self.entry_fits(Priority(p), column[p as usize - 1]) {
+                return Err(Refusal::ColumnMisfit(p as u16));
+            }
+        }
+        Ok(())
     }
 }
