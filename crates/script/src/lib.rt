@@ -1,0 +1,4 @@
+// Calls on a sheet written as lines of text, and their replay.
+pub mod line;
+pub mod parse;
+pub mod text;
