@@ -1,5 +1,5 @@
 -- Cutting a line into words.
-use Prim.Native.Nat.{ℕ, zero, suc, _+_, _≤_, _<_}
+use Prim.Native.Nat.{ℕ, zero, suc, _+_, _≤_, _<_, min}
 use native.Mathlib.Nat.{le-of-suc-le-suc, not-suc-le-zero}
 use native.Mathlib.Omega.{arith}
 use mathlib.Core.Bool.{Bool, true, false, cond, not, _||_}
@@ -7,9 +7,9 @@ use mathlib.Core.List.{List, [], _∷_}
 use mathlib.Core.Path.{_≡_, refl, sym, ap, subst, _∙_}
 use lib.Dec.{eqb}
 use lib.ListN.{length, getD, take, drop, length-drop}
-use Rattle.std.proofs.shelf.Lists.{getD-drop}
+use Rattle.std.proofs.shelf.Lists.{getD-drop, drop-drop}
 use Rattle.std.proofs.shelf.Ways.{tells}
-use Rattle.script.specs.Text.{in-front, blank, hash, wordy, goes-on, words}
+use Rattle.script.specs.Text.{in-front, lines, blank, hash, wordy, goes-on, words}
 
 blank-not-hash : (b : ℕ) → blank b ≡ true → hash b ≡ false
 blank-not-hash b h = grind (arith, tells)
@@ -98,3 +98,41 @@ module _ (text : List ℕ) (n : ℕ) (start : List ℕ) (is : start ≡ drop n t
   cut-first m word rest pos l all stops w r =
       at-start ∙ words-first start m pos l all stops
       ∙ ap (λ (x : List ℕ). x ∷ words (drop m start)) (sym w) ∙ ap (λ (x : List ℕ). word ∷ words x) (sym r)
+
+-- n bytes that end no line, and then a line end or nothing, are the first line
+pub lines-first : (text : List ℕ) (n : ℕ) → 0 < length text → n ≤ length text → ((k : ℕ) → k < n → eqb (getD text k 0) 10 ≡ false) →
+    (n < length text → eqb (getD text n 0) 10 ≡ true) → lines text ≡ take n text ∷ lines (drop (suc n) text)
+unfolding in-front lines
+lines-first [] n some l all stops = absurd (not-suc-le-zero some)
+lines-first (b ∷ bs) zero some l all stops = ap (λ (v : Bool). cond v ([] ∷ lines bs) (in-front b (lines bs))) (stops (omega arith))
+lines-first (b ∷ []) (suc n) some l all stops =
+    let z : n ≡ 0 = omega arith in
+    ap (λ (v : Bool). cond v ([] ∷ lines []) (in-front b (lines []))) (all 0 (omega arith))
+    ∙ ap (λ (m : ℕ). take (suc m) (b ∷ []) ∷ lines (drop (suc (suc m)) (b ∷ []))) (sym z)
+lines-first (b ∷ (c ∷ cs)) (suc n) some l all stops =
+    ap (λ (v : Bool). cond v ([] ∷ lines (c ∷ cs)) (in-front b (lines (c ∷ cs)))) (all 0 (omega arith))
+    ∙ ap (in-front b) (lines-first (c ∷ cs) n (omega arith) (le-of-suc-le-suc l) (λ k h. all (suc k) (omega arith)) (λ h. stops (omega arith)))
+
+drop-one : (e : List ℕ) → drop (min (length e) 1) e ≡ drop 1 e
+drop-one [] = refl
+drop-one (x ∷ xs) = let z : min (suc (length xs)) 1 ≡ 1 = omega arith in ap (λ (k : ℕ). drop k (x ∷ xs)) z
+
+-- a text cut before and after its first line end
+module _ (text : List ℕ) (n : ℕ) (line end rest : List ℕ) (is : line ≡ take n text) (then : end ≡ drop n text) (after : rest ≡ drop (min (length end) 1) end) where
+  rest-is : rest ≡ drop (suc n) text
+  rest-is =
+      let z : n + 1 ≡ suc n = omega arith in
+      after ∙ drop-one end ∙ ap (drop 1) then ∙ drop-drop 1 n text ∙ ap (λ (k : ℕ). drop k text) z
+
+  pub rest-shorter : 0 < length text → length rest < length text
+  rest-shorter some = let l = ap length rest-is ∙ length-drop (suc n) text in omega arith
+
+  pub cut-line : 0 < length text → n ≤ length text → ((k : ℕ) → k < n → eqb (getD text k 0) 10 ≡ false) → (n < length text → eqb (getD text n 0) 10 ≡ true) →
+      lines text ≡ line ∷ lines rest
+  cut-line some l all stops =
+      lines-first text n some l all stops ∙ ap (λ (x : List ℕ). x ∷ lines (drop (suc n) text)) (sym is) ∙ ap (λ (x : List ℕ). line ∷ lines x) (sym rest-is)
+
+pub no-lines : (text : List ℕ) → length text ≡ 0 → lines text ≡ []
+unfolding lines
+no-lines [] e = refl
+no-lines (b ∷ bs) e = let never : ⊥ = omega arith in absurd never

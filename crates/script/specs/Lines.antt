@@ -86,3 +86,14 @@ line-of text = line-in (words text)
 -- what each line of a text says
 abbrev pub script-of : List ℕ → List Line
 script-of text = map line-of (lines text)
+
+-- a line's call in front of the others, if it says one
+abbrev pub asked : Line → List Call → List Call
+asked Blank cs = cs
+asked (Asks x) cs = x ∷ cs
+asked (Wrong e) cs = cs
+
+-- the calls among lines, in their order
+unfoldable pub calls-in : List Line → List Call
+calls-in [] = []
+calls-in (l ∷ ls) = asked l (calls-in ls)

@@ -2,9 +2,10 @@ ghost use Prim.Native.Nat.{ℕ, _≤_, _<_};
 ghost use mathlib.Core.Bool.{true, false};
 ghost use mathlib.Core.List.{[], _∷_};
 ghost use mathlib.Core.Path.{_≡_};
+ghost use lib.Dec.{eqb};
 ghost use lib.ListN.{length, getD};
 ghost use Rattle.std.specs.Options.{Cases as BySome};
-ghost use Rattle.script.specs.Text.{blank, wordy, words, digit, all-digits, spelled};
+ghost use Rattle.script.specs.Text.{lines, blank, wordy, words, digit, all-digits, spelled};
 
 fn is_blank(b: u8) -> bool
     ensures { λ r. ⌜ r ≡ blank b ⌝ }
@@ -56,6 +57,34 @@ pub fn split_word(text: &[u8]) -> Option<(&[u8], &[u8])>
         return None;
     }
     Some(start.split_at(len))
+}
+
+// How many bytes stand before the first line end.
+fn line_len(text: &[u8]) -> usize
+    ensures within { λ r. ⌜ r ≤ length (now (text .entry)) ⌝ }
+    ensures all { λ r. ⌜ ((k : ℕ) → k < r → eqb (getD (now (text .entry)) k 0) 10 ≡ false) ⌝ }
+    ensures stops { λ r. ⌜ (r < length (now (text .entry)) → eqb (getD (now (text .entry)) r 0) 10 ≡ true) ⌝ }
+{
+    for (i, b) in text.iter().enumerate() {
+        if *b == b'\n' {
+            return i;
+        }
+    }
+    text.len()
+}
+
+/// The first line of a text, without its end, and the text after it; none where the text is empty.
+pub fn split_line(text: &[u8]) -> Option<(&[u8], &[u8])>
+    ensures cuts { λ r. ⌜ BySome r (lines (now (text .entry)) ≡ []) (λ x. lines (now (text .entry)) ≡ now (x .0) ∷ lines (now (x .1))) ⌝ }
+    ensures shorter { λ r. ⌜ BySome r (Unit {0}) (λ x. length (now (x .1)) < length (now (text .entry))) ⌝ }
+{
+    if text.is_empty() {
+        return None;
+    }
+    let len = line_len(text);
+    let (line, end) = text.split_at(len);
+    let (_, rest) = end.split_at(end.len().min(1));
+    Some((line, rest))
 }
 
 fn is_digit(b: u8) -> bool
