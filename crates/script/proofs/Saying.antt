@@ -22,11 +22,11 @@ unfolding calls-in
 calls-more ls i d l = at-drop-more calls-in ls i d l
 
 -- one line more that asks a call
-pub asked-more : (ls : List Line) (i : ℕ) (d : Line) (x : Call) (calls calls′ : List Call) → i < length ls → getD ls i d ≡ Asks x →
-    calls ++ calls-in (drop i ls) ≡ calls-in ls → calls′ ≡ calls ++ x ∷ [] → calls′ ++ calls-in (drop (i + 1) ls) ≡ calls-in ls
-asked-more ls i d x calls calls′ l is so more =
+pub asked-more : (ls : List Line) (i : ℕ) (d : Line) (x : Call) (calls pushed calls′ : List Call) → i < length ls → getD ls i d ≡ Asks x →
+    calls ++ calls-in (drop i ls) ≡ calls-in ls → calls′ ≡ pushed → pushed ≡ calls ++ x ∷ [] → calls′ ++ calls-in (drop (i + 1) ls) ≡ calls-in ls
+asked-more ls i d x calls pushed calls′ l is so same more =
     let rest = calls-in (drop (i + 1) ls) in
-    ap (λ (s : List Call). s ++ rest) more ∙ append-assoc calls (x ∷ []) rest
+    ap (λ (s : List Call). s ++ rest) (same ∙ more) ∙ append-assoc calls (x ∷ []) rest
     ∙ ap (λ (y : Line). calls ++ asked y rest) (sym is) ∙ ap (λ (s : List Call). calls ++ s) (sym (calls-more ls i d l)) ∙ so
 
 none-asked : (y : Line) (cs : List Call) → ((x : Call) → y ≡ Asks x → ⊥) → asked y cs ≡ cs

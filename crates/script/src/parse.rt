@@ -16,6 +16,7 @@ use sheet::names::Threshold;
 use sheet::names::Timing;
 
 const BYTE_TOP: u32 = 255;
+
 const WORD_TOP: u32 = 4_294_967_295;
 
 // The words after the name of a call, of which some have been taken.
@@ -59,19 +60,29 @@ impl Arguments<'_> {
 fn read_enter(text: &[u8]) -> Result<Call, Mistake>
     ensures { λ r. ⌜ r ≡ enter-in (words (now (text .entry))) ⌝ }
 {
-    let mut args = Arguments { rest: text, taken: 0 };
+    let mut args = Arguments {
+        rest: text,
+        taken: 0,
+    };
     let p = args.number(BYTE_TOP)?;
     let run_time = args.number(WORD_TOP)?;
     let separation = args.number(WORD_TOP)?;
     let deadline = args.number(WORD_TOP)?;
-    let timing = Timing { run_time, separation, deadline };
+    let timing = Timing {
+        run_time,
+        separation,
+        deadline,
+    };
     args.end(Call::Enter(Priority(p as u8), timing))
 }
 
 fn read_strike(text: &[u8]) -> Result<Call, Mistake>
     ensures { λ r. ⌜ r ≡ strike-in (words (now (text .entry))) ⌝ }
 {
-    let mut args = Arguments { rest: text, taken: 0 };
+    let mut args = Arguments {
+        rest: text,
+        taken: 0,
+    };
     let p = args.number(BYTE_TOP)?;
     args.end(Call::Strike(Priority(p as u8)))
 }
@@ -79,7 +90,10 @@ fn read_strike(text: &[u8]) -> Result<Call, Mistake>
 fn read_cap(text: &[u8]) -> Result<Call, Mistake>
     ensures { λ r. ⌜ r ≡ cap-in (words (now (text .entry))) ⌝ }
 {
-    let mut args = Arguments { rest: text, taken: 0 };
+    let mut args = Arguments {
+        rest: text,
+        taken: 0,
+    };
     let p = args.number(BYTE_TOP)?;
     let to = args.number(BYTE_TOP)?;
     args.end(Call::Cap(Priority(p as u8), Threshold(to as u8)))

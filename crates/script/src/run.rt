@@ -56,5 +56,9 @@ pub fn run_script(text: &[u8], heap: Global) -> Result<Report, AllocError>
     let lines = read_lines(text, heap)?;
     let calls = calls_of(&lines, heap)?;
     let Transcript { answers, sheet } = replay(&calls, heap)?;
-    Ok(Report { lines, answers, sheet })
+    Ok(Report {
+        lines,
+        answers,
+        sheet,
+    })
 }

@@ -34,11 +34,13 @@ impl Sheet {
     pub fn apply(&mut self, call: Call) -> Answer
         ensures { λ r. ⌜ Edited (edit-of call) (table-of (now (self .entry))) (fault-in r) (table-of (now (self .exit))) ⌝ }
     {
-        answer_of(match call {
-            Call::Enter(p, timing) => self.enter(p, timing),
-            Call::Strike(p) => self.strike(p),
-            Call::Cap(p, to) => self.cap(p, to),
-        })
+        answer_of(
+            match call {
+                Call::Enter(p, timing) => self.enter(p, timing),
+                Call::Strike(p) => self.strike(p),
+                Call::Cap(p, to) => self.cap(p, to),
+            },
+        )
     }
 }
 

@@ -7,21 +7,26 @@ use Rattle.std.specs.declared.option.Option.the-variants.{Some, None}
 use Rattle.theory.specs.Figures.{Timing, Figures, Table, Fault, fault, is-row, with-row, priorities, run-time-top, ticks-top, within}
 
 pub data Edit : Type 0 where
-  enter : ℕ → Timing → Edit    -- a row with this timing at this priority
-  strike : ℕ → Edit            -- no row at this priority
-  limit : ℕ → ℕ → Edit         -- this cap for the row at this priority
+  enter : ℕ → Timing → Edit  -- a row with this timing at this priority
+  strike : ℕ → Edit  -- no row at this priority
+  limit : ℕ → ℕ → Edit  -- this cap for the row at this priority
 
 -- the refusal n at p unless the rule holds, and then what is left to ask
 abbrev pub unless : Bool → ℕ → ℕ → Option Fault → Option Fault
 unless rule n p rest = cond rule rest (Some (fault n p))
 
+-- why a timing is refused at priority p, if it is
+abbrev pub timing-refusal : ℕ → Timing → Option Fault
+timing-refusal p w =
+    unless (within run-time-top (w .c)) 3 p
+    (unless (within ticks-top (w .t)) 4 p
+    (unless (within ticks-top (w .d)) 5 p None))
+
 -- Why an edit is refused in a sheet: the rule with the smallest number that it breaks, if any.
 abbrev pub refusal : Edit → Table → Option Fault
 refusal (enter p w) rows =
     unless (within priorities p) 2 p
-    (unless (within run-time-top (w .c)) 3 p
-    (unless (within ticks-top (w .t)) 4 p
-    (unless (within ticks-top (w .d)) 5 p None)))
+    (timing-refusal p w)
 refusal (strike p) rows =
     unless (within priorities p) 2 p
     (unless (is-row (rows p)) 6 p None)

@@ -8,9 +8,9 @@ use Rattle.std.specs.declared.option.Option.the-variants.{Some, None}
 
 -- what a task asks of the processor, in ticks
 pub record Timing : Type 0 where
-  pub c : ℕ    -- run time
-  pub t : ℕ    -- least distance between two releases
-  pub d : ℕ    -- deadline, counted from the release
+  pub c : ℕ  -- run time
+  pub t : ℕ  -- least distance between two releases
+  pub d : ℕ  -- deadline, counted from the release
 
 -- a row of a sheet: its timing, and its cap, the smallest threshold number that it may get
 pub record Figures : Type 0 where
@@ -46,12 +46,15 @@ within top n = leb 1 n && leb n top
 abbrev pub Within : ℕ → ℕ → Type 0
 Within top n = (1 ≤ n) × (n ≤ top)
 
--- the ranges of the row f at priority p
+-- the ranges of a timing, and of the row f at priority p
+pub record Timed (w : Timing) : Type 0 where
+  pub runs : Within run-time-top (w .c)
+  pub apart : Within ticks-top (w .t)
+  pub due : Within ticks-top (w .d)
+
 pub record InRange (p : ℕ) (f : Figures) : Type 0 where
   pub priority : Within priorities p
-  pub runs : Within run-time-top (f .timing .c)
-  pub apart : Within ticks-top (f .timing .t)
-  pub due : Within ticks-top (f .timing .d)
+  pub timed : Timed (f .timing)
   pub capped : Within p (f .limit)
 
 -- no row of the sheet is out of range

@@ -5,6 +5,7 @@ ghost use Rattle.theory.specs.Columns.{fits-at, ColumnAnswer};
 ghost use Rattle.theory.specs.Figures.{Sound};
 ghost use Rattle.sheet.specs.Refusals.{refused};
 ghost use Rattle.sheet.specs.Views.{figures, table-of};
+use super::super::names::PRIORITIES;
 use super::super::names::Priority;
 use super::super::refusal::Refusal;
 use super::super::row::Row;
@@ -23,10 +24,10 @@ impl Sheet {
         ensures value { λ r. ⌜ figures r ≡ table-of (now (self .entry)) (p .0) ⌝ }
         ensures sound { λ _. ⌜ Sound (table-of (now (self .entry))) ⌝ }
     {
-        if p.0 < 1 || p.0 > 32 {
-            return None;
+        match p.index() {
+            Ok(i) => self.rows[i],
+            Err(_) => None,
         }
-        self.rows[p.0 as usize - 1]
     }
 
     // Whether the entry q fits at p.
@@ -43,10 +44,10 @@ impl Sheet {
     pub fn check_column(&self, column: &[u8]) -> Result<(), Refusal>
         ensures { λ r. ⌜ ColumnAnswer (table-of (now (self .entry))) (now (column .entry)) (refused r) ⌝ }
     {
-        if column.len() < 32 {
+        if column.len() < PRIORITIES as usize {
             return Err(Refusal::ListTooShort);
         }
-        for p in 1..=32u8 {
+        for p in 1..=PRIORITIES {
             if !self.entry_fits(Priority(p), column[p as usize - 1]) {
                 return Err(Refusal::ColumnMisfit(p as u16));
             }

@@ -1,4 +1,4 @@
-use mathlib.Core.Path.{ap, _∙_}
+use mathlib.Core.Path.{ap}
 use native.Mathlib.Omega.{arith}
 use Rattle.std.specs.Of.Vec.{vec-items}
 use Rattle.script.specs.declared.line.Line.the-variants.{Blank}
@@ -12,11 +12,11 @@ loop-line-again c =
     let i = c .loop-line .line-index in
     elim (c .match-line .came) [
       | in-Asks·in-Continue-push w ↦
-        asked-more ls i Blank (w .in-Asks .call) (vec-items (c .loop-line .calls)) (vec-items (c .match-line .calls)) (omega arith) (w .in-Asks .is) (c .loop-line .inv)
-        (ap vec-items (w .calls-is) ∙ w .in-Continue-push .ensures tt .items)
+          asked-more ls i Blank (w .in-Asks .call) (vec-items (c .loop-line .calls)) (vec-items (w .push .last .self)) (vec-items (c .match-line .calls)) (omega arith)
+          (w .in-Asks .is) (c .loop-line .inv) (ap vec-items (w .calls-is)) (w .in-Continue-push .ensures tt .items)
       | in-rest w ↦
-        none-more ls i Blank (vec-items (c .loop-line .calls)) (vec-items (c .match-line .calls)) (omega arith) (w .in-rest .not-Asks) (c .loop-line .inv)
-        (ap vec-items (w .calls-is))
+          none-more ls i Blank (vec-items (c .loop-line .calls)) (vec-items (c .match-line .calls)) (omega arith) (w .in-rest .not-Asks) (c .loop-line .inv)
+          (ap vec-items (w .calls-is))
     ]
 
 pub returns : need.returns

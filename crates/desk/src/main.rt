@@ -1,0 +1,106 @@
+// Reads lines of calls on a sheet from standard input, and prints the answer to each and the sheet that they leave.
+use script::answer::answer_line;
+use script::answer::mistake_line;
+use script::line::Line;
+use script::run::Report;
+use script::run::run_script;
+use sheet::call::Answer;
+use sheet::call::Call;
+use sheet::names::Priority;
+use sheet::refusal::Refusal;
+use sheet::table::Sheet;
+use std::error::AnyError;
+use std::io;
+use std::io::Read;
+
+// Longer scripts are turned away, so that an input without an end is one too.
+const LONGEST: usize = 1_048_576;
+
+fn reason(refusal: Refusal) -> &'static str {
+    match refusal {
+        Refusal::PriorityRange(_) => "a priority is from 1 to 32",
+        Refusal::RunTimeRange(_) => "a run time is from 1 to 16777215 ticks",
+        Refusal::SeparationRange(_) => "a separation is from 1 to 100000000 ticks",
+        Refusal::DeadlineRange(_) => "a deadline is from 1 to 100000000 ticks",
+        Refusal::NoRow(_) => "there is no row",
+        Refusal::CapRange(_) => "a cap is from 1 to its row's priority",
+        _ => "",
+    }
+}
+
+fn print_answer(rt: &LibcRuntime, call: Call, answer: Answer) -> io::Result<()> {
+    let line = answer_line(call, answer, rt.alloc())?;
+    match answer {
+        Answer::Accepted => println!(rt, "{line}"),
+        Answer::Refused(refusal) => {
+            let why = reason(refusal);
+            println!(rt, "{line} ({why})")
+        }
+    }
+}
+
+// Prints what a line of the script came to; a line that asks a call has the next answer.
+fn print_line(
+    rt: &LibcRuntime,
+    number: usize,
+    line: Line,
+    next: Option<&Answer>,
+) -> io::Result<bool> {
+    match line {
+        Line::Blank => Ok(false),
+        Line::Asks(call) => {
+            if let Some(answer) = next {
+                print_answer(rt, call, *answer)?;
+            }
+            Ok(true)
+        }
+        Line::Wrong(mistake) => {
+            rt.println(mistake_line(number, mistake, rt.alloc())?)?;
+            Ok(false)
+        }
+    }
+}
+
+fn print_answers(rt: &LibcRuntime, report: &Report) -> io::Result<()> {
+    let mut asked: usize = 0;
+    for (i, line) in report.lines.iter().enumerate() {
+        if print_line(rt, i + 1, *line, report.answers.get(asked))? {
+            asked += 1;
+        }
+    }
+    Ok(())
+}
+
+fn print_sheet(rt: &LibcRuntime, sheet: &Sheet) -> io::Result<()> {
+    println!(rt, "priority  run time  separation   deadline  cap")?;
+    for p in 1..=32u8 {
+        if let Some(row) = sheet.row(Priority(p)) {
+            let run_time = row.timing.run_time;
+            let separation = row.timing.separation;
+            let deadline = row.timing.deadline;
+            let cap = row.cap.0;
+            println!(
+                rt,
+                "{p:>8}  {run_time:>8}  {separation:>10}  {deadline:>9}  {cap:>3}"
+            )?;
+        }
+    }
+    Ok(())
+}
+
+fn run(rt: &LibcRuntime) -> Result<(), AnyError> {
+    let mut text = Vec::new(rt.alloc());
+    rt.stdin().take(LONGEST as u64 + 1).read_to_end(&mut text)?;
+    if text.len() > LONGEST {
+        return Err("the script is longer than 1048576 bytes".into());
+    }
+    let report = run_script(&text, rt.alloc())?;
+    print_answers(rt, &report)?;
+    println!(rt)?;
+    print_sheet(rt, &report.sheet)?;
+    Ok(())
+}
+
+fn main(rt: LibcRuntime) -> Result<(), AnyError> {
+    rt.report(run(&rt))
+}
