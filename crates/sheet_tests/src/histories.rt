@@ -1,0 +1,80 @@
+use sheet::call::Answer;
+use sheet::call::AnswerDebug;
+use sheet::call::AnswerPartialEq;
+use sheet::call::Call;
+use sheet::names::Priority;
+use sheet::names::Threshold;
+use sheet::names::Timing;
+use sheet::refusal::Refusal;
+use sheet::replay::replay;
+use sheet::row::Row;
+use std::test::*;
+
+fn enter(p: u8, run_time: u32) -> Call {
+    Call::Enter(
+        Priority(p),
+        Timing {
+            run_time,
+            separation: 100,
+            deadline: 90,
+        },
+    )
+}
+
+fn cap(p: u8, k: u8) -> Call {
+    Call::Cap(Priority(p), Threshold(k))
+}
+
+fn strike(p: u8) -> Call {
+    Call::Strike(Priority(p))
+}
+
+// Run time and cap of a row, zeros where there is none.
+fn shown(row: Option<Row>) -> (u32, u8) {
+    match row {
+        Some(row) => (row.timing.run_time, row.cap.0),
+        None => (0, 0),
+    }
+}
+
+const DONE: Answer = Answer::Accepted;
+
+#[test]
+fn a_replay_with_repeats_and_refusals(rt: LibcRuntime) -> Result<(), Fail> {
+    let history = [
+        (enter(2, 20), DONE),
+        (enter(5, 50), DONE),
+        (cap(5, 3), DONE),
+        (cap(5, 6), Answer::Refused(Refusal::CapRange(5))),
+        (enter(2, 0), Answer::Refused(Refusal::RunTimeRange(2))),
+        (cap(2, 2), DONE),
+        (enter(2, 21), DONE),
+        (strike(5), DONE),
+        (strike(5), Answer::Refused(Refusal::NoRow(5))),
+        (cap(5, 1), Answer::Refused(Refusal::NoRow(5))),
+        (enter(5, 51), DONE),
+        (enter(9, 90), DONE),
+        (cap(9, 9), DONE),
+        (cap(9, 4), DONE),
+        (strike(2), DONE),
+    ];
+    let mut calls = Vec::new(rt.alloc());
+    for (call, _) in history {
+        calls.push(call)?;
+    }
+    let transcript = replay(&calls, rt.alloc())?;
+    for (i, (_, expected)) in history.iter().enumerate() {
+        check_eq(transcript.answers.get(i).copied(), Some(*expected))?;
+    }
+    check_eq(transcript.answers.len(), 15)?;
+    for (p, expected) in [
+        (1, (0, 0)),
+        (2, (0, 0)),
+        (5, (51, 1)),
+        (9, (90, 4)),
+        (33, (0, 0)),
+    ] {
+        check_eq(shown(transcript.sheet.row(Priority(p))), expected)?;
+    }
+    Ok(())
+}
