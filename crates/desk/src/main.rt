@@ -1,13 +1,13 @@
 // Reads lines of calls on a sheet from standard input, and prints the answer to each and the sheet that they leave.
+use history::call::Answer;
+use history::call::Call;
+use names::Priority;
+use names::refusal::Refusal;
 use script::answer::answer_line;
 use script::answer::mistake_line;
 use script::line::Line;
 use script::run::Report;
 use script::run::run_script;
-use sheet::call::Answer;
-use sheet::call::Call;
-use sheet::names::Priority;
-use sheet::refusal::Refusal;
 use sheet::table::Sheet;
 use std::error::AnyError;
 use std::io;

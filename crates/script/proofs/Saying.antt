@@ -4,7 +4,7 @@ use mathlib.Core.List.{List, [], _∷_, _++_, map, append-assoc}
 use mathlib.Core.Path.{_≡_, refl, sym, ap, _∙_}
 use lib.ListN.{length, getD, drop}
 use Rattle.std.proofs.shelf.Lists.{at-drop-more, at-drop-all, append-nil}
-use Rattle.sheet.specs.declared.call.Call.{Call}
+use Rattle.history.specs.declared.call.Call.{Call}
 use Rattle.script.specs.declared.line.Line.{Line}
 use Rattle.script.specs.declared.line.Line.the-variants.{Blank, Asks, Wrong}
 use Rattle.script.specs.Text.{lines}

@@ -3,11 +3,11 @@ use mathlib.Core.List.{List, _++_}
 use Prim.Native.Nat.{ℕ}
 use lib.Chars.{codes}
 use Rattle.std.specs.Written.{decimal}
-use Rattle.sheet.specs.declared.call.Call.{Call}
-use Rattle.sheet.specs.declared.call.Call.the-variants.{Enter, Strike, Cap}
-use Rattle.sheet.specs.declared.call.Answer.{Answer}
-use Rattle.sheet.specs.declared.call.Answer.the-variants.{Accepted, Refused}
-use Rattle.sheet.specs.Refusals.{fault-of}
+use Rattle.history.specs.declared.call.Call.{Call}
+use Rattle.history.specs.declared.call.Call.the-variants.{Enter, Strike, Cap}
+use Rattle.history.specs.declared.call.Answer.{Answer}
+use Rattle.history.specs.declared.call.Answer.the-variants.{Accepted, Refused}
+use Rattle.names.specs.Refusals.{fault-of}
 use Rattle.script.specs.declared.line.Mistake.{Mistake}
 use Rattle.script.specs.declared.line.Mistake.the-variants.{UnknownCall, TooFewArguments, TooManyArguments, NotANumber, TooLarge}
 

@@ -8,8 +8,8 @@ use lib.ListN.{drop}
 use Rattle.std.specs.shelf.Text.{sameBytes}
 use Rattle.std.specs.declared.result.Result.{Result}
 use Rattle.std.specs.declared.result.Result.the-variants.{Ok, Err}
-use Rattle.sheet.specs.declared.call.Call.{Call}
-use Rattle.sheet.specs.declared.call.Call.the-variants.{Enter, Strike, Cap}
+use Rattle.history.specs.declared.call.Call.{Call}
+use Rattle.history.specs.declared.call.Call.the-variants.{Enter, Strike, Cap}
 use Rattle.script.specs.declared.line.Line.{Line}
 use Rattle.script.specs.declared.line.Line.the-variants.{Blank, Asks, Wrong}
 use Rattle.script.specs.declared.line.Mistake.{Mistake}

@@ -3,8 +3,8 @@ ghost use Rattle.std.specs.Of.String.{string-bytes};
 ghost use Rattle.std.specs.Vec.{made};
 ghost use Rattle.script.specs.Answers.{accepted-text, answer-text, wrong-text, mistake-text};
 use super::line::Mistake;
-use sheet::call::Answer;
-use sheet::call::Call;
+use history::call::Answer;
+use history::call::Call;
 use std::alloc::AllocError;
 use std::alloc::Global;
 

@@ -1,4 +1,4 @@
-use sheet::call::Call;
+use history::call::Call;
 
 /// What is wrong with a line that is no call. Arguments are counted from 1.
 #[derive(Clone, Copy)]

@@ -10,10 +10,10 @@ use super::line::Mistake;
 use super::text::is_number;
 use super::text::number_within;
 use super::text::split_word;
-use sheet::call::Call;
-use sheet::names::Priority;
-use sheet::names::Threshold;
-use sheet::names::Timing;
+use history::call::Call;
+use names::Priority;
+use names::Threshold;
+use names::Timing;
 
 const BYTE_TOP: u32 = 255;
 

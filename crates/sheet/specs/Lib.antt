@@ -1,4 +1,2 @@
 pub mod Caps
-pub mod Refusals
 pub mod Views
-pub mod Calls

@@ -4,13 +4,10 @@ use mathlib.Core.Bool.{cond}
 use lib.ListN.{getD}
 use Rattle.std.specs.declared.option.Option.{Option}
 use Rattle.std.specs.declared.option.Option.the-variants.{Some, None}
-use Rattle.sheet.specs.declared.names.Timing as program
 use Rattle.sheet.specs.declared.row.Row.{Row}
 use Rattle.sheet.specs.declared.table.Sheet.{Sheet}
-use Rattle.theory.specs.Figures.{Timing, Figures, Table, priorities, within}
-
-abbrev pub timing-of : program.Timing → Timing
-timing-of w = record { c = w .«run_time»; t = w .separation; d = w .deadline }
+use Rattle.theory.specs.Figures.{Figures, Table, priorities, within}
+use Rattle.names.specs.Timings.{timing-of}
 
 abbrev pub figures : Option Row → Option Figures
 figures None = None

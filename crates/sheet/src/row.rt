@@ -1,6 +1,6 @@
 ghost use Prim.Native.Nat.{_≤_};
-use super::names::Threshold;
-use super::names::Timing;
+use names::Threshold;
+use names::Timing;
 
 /// A task that stands in a sheet: its timing, every figure in range, and its cap, the smallest threshold number
 /// that it may get.

@@ -1,9 +1,9 @@
-use sheet::names::Priority;
-use sheet::names::Threshold;
-use sheet::names::Timing;
-use sheet::refusal::Refusal;
-use sheet::refusal::RefusalDebug;
-use sheet::refusal::RefusalPartialEq;
+use names::Priority;
+use names::Threshold;
+use names::Timing;
+use names::refusal::Refusal;
+use names::refusal::RefusalDebug;
+use names::refusal::RefusalPartialEq;
 use sheet::table::Sheet;
 use std::test::*;
 

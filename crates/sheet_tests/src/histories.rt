@@ -1,12 +1,12 @@
-use sheet::call::Answer;
-use sheet::call::AnswerDebug;
-use sheet::call::AnswerPartialEq;
-use sheet::call::Call;
-use sheet::names::Priority;
-use sheet::names::Threshold;
-use sheet::names::Timing;
-use sheet::refusal::Refusal;
-use sheet::replay::replay;
+use history::call::Answer;
+use history::call::AnswerDebug;
+use history::call::AnswerPartialEq;
+use history::call::Call;
+use history::replay;
+use names::Priority;
+use names::Threshold;
+use names::Timing;
+use names::refusal::Refusal;
 use sheet::row::Row;
 use std::test::*;
 

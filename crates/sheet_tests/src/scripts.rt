@@ -1,10 +1,10 @@
+use history::call::Answer;
+use names::Priority;
 use script::answer::answer_line;
 use script::answer::mistake_line;
 use script::line::Line;
 use script::parse::read_line;
 use script::run::run_script;
-use sheet::call::Answer;
-use sheet::names::Priority;
 use std::alloc::AllocError;
 use std::alloc::Global;
 use std::test::*;

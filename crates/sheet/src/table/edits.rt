@@ -2,14 +2,15 @@ ghost use mathlib.Core.Path.{_≡_};
 ghost use Rattle.std.specs.Vec.{made};
 ghost use Rattle.theory.specs.Figures.{Timed};
 ghost use Rattle.theory.specs.Edits.{enter, strike, limit, timing-refusal, Edited};
-ghost use Rattle.sheet.specs.Refusals.{refused};
-ghost use Rattle.sheet.specs.Views.{timing-of, table-of};
-use super::super::names::Priority;
-use super::super::names::Threshold;
-use super::super::names::Timing;
-use super::super::refusal::Refusal;
+ghost use Rattle.names.specs.Refusals.{refused};
+ghost use Rattle.names.specs.Timings.{timing-of};
+ghost use Rattle.sheet.specs.Views.{table-of};
 use super::super::row::Row;
 use super::Sheet;
+use names::Priority;
+use names::Threshold;
+use names::Timing;
+use names::refusal::Refusal;
 
 const RUN_TIME_TOP: u32 = 16_777_215;
 
@@ -40,10 +41,11 @@ impl Sheet {
     {
         let i = p.index()?;
         check_timing(p, timing)?;
-        self.rows[i] = Some(Row {
+        let fresh = Row {
             timing,
             cap: Threshold(1),
-        });
+        };
+        self.rows[i] = Some(fresh);
         Ok(())
     }
 
@@ -71,10 +73,11 @@ impl Sheet {
         if to.0 < 1 || to.0 > p.0 {
             return Err(Refusal::CapRange(p.0 as u16));
         }
-        self.rows[i] = Some(Row {
+        let capped = Row {
             timing: row.timing,
             cap: to,
-        });
+        };
+        self.rows[i] = Some(capped);
         Ok(())
     }
 }

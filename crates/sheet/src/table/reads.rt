@@ -3,13 +3,13 @@ ghost use mathlib.Core.Path.{_≡_};
 ghost use Rattle.std.specs.declared.option.Option.the-variants.{None};
 ghost use Rattle.theory.specs.Columns.{fits-at, ColumnAnswer};
 ghost use Rattle.theory.specs.Figures.{Sound};
-ghost use Rattle.sheet.specs.Refusals.{refused};
+ghost use Rattle.names.specs.Refusals.{refused};
 ghost use Rattle.sheet.specs.Views.{figures, table-of};
-use super::super::names::PRIORITIES;
-use super::super::names::Priority;
-use super::super::refusal::Refusal;
 use super::super::row::Row;
 use super::Sheet;
+use names::PRIORITIES;
+use names::Priority;
+use names::refusal::Refusal;
 
 impl Sheet {
     /// A fresh sheet, which has no rows.

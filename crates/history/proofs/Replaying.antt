@@ -8,14 +8,14 @@ use Rattle.std.proofs.shelf.Lists.{map-push}
 use Rattle.std.specs.Finite.{nth}
 use Rattle.std.specs.declared.option.Option.{Option}
 use Rattle.std.specs.declared.option.Option.the-variants.{Some, None}
-use Rattle.sheet.specs.declared.call.Call.{Call}
-use Rattle.sheet.specs.declared.call.Answer.{Answer}
+use Rattle.history.specs.declared.call.Call.{Call}
+use Rattle.history.specs.declared.call.Answer.{Answer}
 use Rattle.theory.specs.Figures.{Table}
 use Rattle.theory.specs.Edits.{Edited}
 use Rattle.theory.specs.History.{Replayed}
 use Rattle.theory.proofs.Histories.{So-far, start, turn, done}
 use Rattle.theory.proofs.Decided.{decided}
-use Rattle.sheet.specs.Calls.{edit-of, fault-in, some-edit, edits-of, faults-in}
+use Rattle.history.specs.Calls.{edit-of, fault-in, some-edit, edits-of, faults-in}
 
 nth-map : {X Y : Type 0} (f : X → Y) (xs : List X) (i : ℕ) (d : X) → i < length xs → nth (map f xs) i ≡ Some (f (getD xs i d))
 nth-map f [] i d h = absurd (not-suc-le-zero h)

@@ -1,15 +1,19 @@
+// Calls on a sheet, their answers, and the replay of a list of calls from a fresh sheet.
 ghost use Rattle.std.specs.Of.Vec.{vec-items};
 ghost use Rattle.std.specs.Vec.{made};
 ghost use Rattle.theory.specs.Edits.{Edited};
 ghost use Rattle.theory.specs.History.{Replayed};
 ghost use Rattle.sheet.specs.Views.{table-of};
-ghost use Rattle.sheet.specs.Refusals.{refused};
-ghost use Rattle.sheet.specs.Calls.{edit-of, fault-in, edits-of, faults-in};
+ghost use Rattle.names.specs.Refusals.{refused};
+ghost use Rattle.history.specs.Calls.{edit-of, fault-in, edits-of, faults-in};
 ghost use mathlib.Core.Path.{_≡_};
-use super::call::Answer;
-use super::call::Call;
-use super::refusal::Refusal;
-use super::table::Sheet;
+
+pub mod call;
+
+use call::Answer;
+use call::Call;
+use names::refusal::Refusal;
+use sheet::table::Sheet;
 use std::alloc::AllocError;
 use std::alloc::Global;
 
@@ -29,19 +33,17 @@ fn answer_of(r: Result<(), Refusal>) -> Answer
     }
 }
 
-impl Sheet {
-    /// Makes one call.
-    pub fn apply(&mut self, call: Call) -> Answer
-        ensures { λ r. ⌜ Edited (edit-of call) (table-of (now (self .entry))) (fault-in r) (table-of (now (self .exit))) ⌝ }
-    {
-        answer_of(
-            match call {
-                Call::Enter(p, timing) => self.enter(p, timing),
-                Call::Strike(p) => self.strike(p),
-                Call::Cap(p, to) => self.cap(p, to),
-            },
-        )
-    }
+/// Makes one call.
+pub fn apply(sheet: &mut Sheet, call: Call) -> Answer
+    ensures { λ r. ⌜ Edited (edit-of call) (table-of (now (sheet .entry))) (fault-in r) (table-of (now (sheet .exit))) ⌝ }
+{
+    answer_of(
+        match call {
+            Call::Enter(p, timing) => sheet.enter(p, timing),
+            Call::Strike(p) => sheet.strike(p),
+            Call::Cap(p, to) => sheet.cap(p, to),
+        },
+    )
 }
 
 /// Makes all the calls, in their order, on a fresh sheet.
@@ -51,7 +53,7 @@ pub fn replay(calls: &[Call], heap: Global) -> Result<Transcript, AllocError>
     let mut sheet = Sheet::new();
     let mut answers = Vec::new(heap);
     for call in calls {
-        answers.push(sheet.apply(*call))?;
+        answers.push(apply(&mut sheet, *call))?;
     }
     Ok(Transcript { answers, sheet })
 }

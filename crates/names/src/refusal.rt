@@ -1,5 +1,5 @@
 ghost use mathlib.Core.Path.{_≡_};
-ghost use Rattle.sheet.specs.Refusals.{fault-of};
+ghost use Rattle.names.specs.Refusals.{fault-of};
 
 /// Where a rule was broken: a priority, a cache set or a record of a file; 0 where there is nothing to point at.
 pub type Place = u16;

@@ -3,14 +3,14 @@ use Prim.Native.Nat.{ℕ}
 use mathlib.Core.List.{List, map}
 use Rattle.std.specs.declared.option.Option.{Option}
 use Rattle.std.specs.declared.option.Option.the-variants.{Some, None}
-use Rattle.sheet.specs.declared.call.Call.{Call}
-use Rattle.sheet.specs.declared.call.Call.the-variants.{Enter, Strike, Cap}
-use Rattle.sheet.specs.declared.call.Answer.{Answer}
-use Rattle.sheet.specs.declared.call.Answer.the-variants.{Accepted, Refused}
+use Rattle.history.specs.declared.call.Call.{Call}
+use Rattle.history.specs.declared.call.Call.the-variants.{Enter, Strike, Cap}
+use Rattle.history.specs.declared.call.Answer.{Answer}
+use Rattle.history.specs.declared.call.Answer.the-variants.{Accepted, Refused}
 use Rattle.theory.specs.Figures.{Fault}
 use Rattle.theory.specs.Edits.{Edit, enter, strike, limit}
-use Rattle.sheet.specs.Refusals.{fault-of}
-use Rattle.sheet.specs.Views.{timing-of}
+use Rattle.names.specs.Refusals.{fault-of}
+use Rattle.names.specs.Timings.{timing-of}
 
 abbrev pub edit-of : Call → Edit
 edit-of (Enter p w) = enter (p .0) (timing-of w)

@@ -1,9 +1,12 @@
+// The words that every crate shares: priorities, thresholds, timings and refusals.
 ghost use Prim.Native.Nat.{_-_};
 ghost use mathlib.Core.Bool.{cond};
 ghost use mathlib.Core.Path.{_≡_};
 ghost use Rattle.std.specs.declared.result.Result.the-variants.{Ok, Err};
 ghost use Rattle.theory.specs.Figures.{priorities, within};
-use super::refusal::Refusal;
+use refusal::Refusal;
+
+pub mod refusal;
 
 /// The least urgent priority.
 pub const PRIORITIES: u8 = 32;

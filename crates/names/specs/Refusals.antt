@@ -4,8 +4,8 @@ use Rattle.std.specs.declared.option.Option.{Option}
 use Rattle.std.specs.declared.option.Option.the-variants.{Some, None}
 use Rattle.std.specs.declared.result.Result.{Result}
 use Rattle.std.specs.declared.result.Result.the-variants.{Ok, Err}
-use Rattle.sheet.specs.declared.refusal.Refusal.{Refusal}
-use Rattle.sheet.specs.declared.refusal.Refusal.the-variants.{ListTooShort, PriorityRange, RunTimeRange, SeparationRange, DeadlineRange, NoRow, CapRange, ColumnMisfit, NotBlocking, UsefulNotEvicting, ReloadRange, SwitchCostRange, NoColumn, FileTooShort, UnknownVersion, UnknownLetter, WrongLayout, SpareByte, PriorityOrder}
+use Rattle.names.specs.declared.refusal.Refusal.{Refusal}
+use Rattle.names.specs.declared.refusal.Refusal.the-variants.{ListTooShort, PriorityRange, RunTimeRange, SeparationRange, DeadlineRange, NoRow, CapRange, ColumnMisfit, NotBlocking, UsefulNotEvicting, ReloadRange, SwitchCostRange, NoColumn, FileTooShort, UnknownVersion, UnknownLetter, WrongLayout, SpareByte, PriorityOrder}
 use Rattle.theory.specs.Figures.{Fault, fault}
 
 abbrev pub fault-of : Refusal → Fault
