@@ -1,6 +1,7 @@
 // Reads lines of calls on a sheet from standard input, and prints the answer to each and the sheet that they leave.
 use history::call::Answer;
 use history::call::Call;
+use names::PRIORITIES;
 use names::Priority;
 use names::refusal::Refusal;
 use script::answer::answer_line;
@@ -8,6 +9,7 @@ use script::answer::mistake_line;
 use script::line::Line;
 use script::run::Report;
 use script::run::run_script;
+use sheet::row::Row;
 use sheet::table::Sheet;
 use std::error::AnyError;
 use std::io;
@@ -24,7 +26,7 @@ fn reason(refusal: Refusal) -> &'static str {
         Refusal::DeadlineRange(_) => "a deadline is from 1 to 100000000 ticks",
         Refusal::NoRow(_) => "there is no row",
         Refusal::CapRange(_) => "a cap is from 1 to its row's priority",
-        _ => "",
+        _ => "no call of a script breaks this rule",
     }
 }
 
@@ -71,21 +73,31 @@ fn print_answers(rt: &LibcRuntime, report: &Report) -> io::Result<()> {
     Ok(())
 }
 
+fn print_row(rt: &LibcRuntime, p: u8, row: Row) -> io::Result<()> {
+    let run_time = row.timing.run_time;
+    let separation = row.timing.separation;
+    let deadline = row.timing.deadline;
+    let cap = row.cap.0;
+    println!(
+        rt,
+        "{p:>8}  {run_time:>8}  {separation:>10}  {deadline:>9}  {cap:>3}"
+    )
+}
+
 fn print_sheet(rt: &LibcRuntime, sheet: &Sheet) -> io::Result<()> {
     println!(rt, "priority  run time  separation   deadline  cap")?;
-    for p in 1..=32u8 {
+    let mut empty = true;
+    for p in 1..=PRIORITIES {
         if let Some(row) = sheet.row(Priority(p)) {
-            let run_time = row.timing.run_time;
-            let separation = row.timing.separation;
-            let deadline = row.timing.deadline;
-            let cap = row.cap.0;
-            println!(
-                rt,
-                "{p:>8}  {run_time:>8}  {separation:>10}  {deadline:>9}  {cap:>3}"
-            )?;
+            print_row(rt, p, row)?;
+            empty = false;
         }
     }
-    Ok(())
+    if empty {
+        println!(rt, "  (none)")
+    } else {
+        Ok(())
+    }
 }
 
 fn run(rt: &LibcRuntime) -> Result<(), AnyError> {
