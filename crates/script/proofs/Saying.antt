@@ -7,7 +7,7 @@ use Rattle.std.proofs.shelf.Lists.{at-drop-more, at-drop-all, append-nil}
 use Rattle.history.specs.declared.call.Call.{Call}
 use Rattle.script.specs.declared.line.Line.{Line}
 use Rattle.script.specs.declared.line.Line.the-variants.{Blank, Asks, Wrong}
-use Rattle.script.specs.Text.{lines}
+use Rattle.text.specs.Text.{lines}
 use Rattle.script.specs.Lines.{line-of, script-of, asked, calls-in}
 
 -- one line more

@@ -3,7 +3,6 @@ use Prim.Native.Nat.{ℕ, _+_}
 use mathlib.Core.Bool.{Bool, true, false, cond}
 use mathlib.Core.List.{List, [], _∷_, map}
 use lib.Chars.{codes}
-use lib.Dec.{leb}
 use lib.ListN.{drop}
 use Rattle.std.specs.shelf.Text.{sameBytes}
 use Rattle.std.specs.declared.result.Result.{Result}
@@ -14,7 +13,10 @@ use Rattle.script.specs.declared.line.Line.{Line}
 use Rattle.script.specs.declared.line.Line.the-variants.{Blank, Asks, Wrong}
 use Rattle.script.specs.declared.line.Mistake.{Mistake}
 use Rattle.script.specs.declared.line.Mistake.the-variants.{UnknownCall, TooFewArguments, TooManyArguments, NotANumber, TooLarge}
-use Rattle.script.specs.Text.{lines, words, all-digits, spelled}
+use Rattle.text.specs.declared.NumberFault.{NumberFault}
+use Rattle.text.specs.declared.NumberFault.the-variants.{NotDigits, AboveTop}
+use Rattle.text.specs.Numbers.{number-in}
+use Rattle.text.specs.Text.{lines, words}
 
 -- the greatest numbers that an argument may be
 abbrev pub byte-top : ℕ
@@ -23,14 +25,16 @@ byte-top = 255
 abbrev pub word-top : ℕ
 word-top = 4294967295
 
--- argument k, the word w, as a number up to top
-abbrev pub number : ℕ → ℕ → List ℕ → Result ℕ Mistake
-number k top w = cond (all-digits w) (cond (leb (spelled 0 w) top) (Ok (spelled 0 w)) (Err (TooLarge k))) (Err (NotANumber k))
+-- argument k as it was read
+abbrev pub numbered : ℕ → Result ℕ NumberFault → Result ℕ Mistake
+numbered k (Ok n) = Ok n
+numbered k (Err NotDigits) = Err (NotANumber k)
+numbered k (Err AboveTop) = Err (TooLarge k)
 
--- argument k, which is the first of these words
+-- argument k, which is the first of these words, as a number up to top
 abbrev pub argument : ℕ → ℕ → List (List ℕ) → Result ℕ Mistake
 argument k top [] = Err TooFewArguments
-argument k top (w ∷ ws) = number k top w
+argument k top (w ∷ ws) = numbered k (number-in top w)
 
 -- no word is left
 abbrev pub ended : {X : Type 0} → X → List (List ℕ) → Result X Mistake

@@ -3,4 +3,3 @@ pub mod answer;
 pub mod line;
 pub mod parse;
 pub mod run;
-pub mod text;

@@ -3,17 +3,17 @@ ghost use mathlib.Core.Path.{_≡_};
 ghost use lib.ListN.{drop};
 ghost use Rattle.std.specs.Vec.{made};
 ghost use Rattle.std.specs.shelf.Text.{sameBytes};
-ghost use Rattle.script.specs.Text.{words};
+ghost use Rattle.text.specs.Text.{words};
 ghost use Rattle.script.specs.Lines.{argument, ended, enter-in, strike-in, cap-in, call-in, line-of};
 use super::line::Line;
 use super::line::Mistake;
-use super::text::is_number;
-use super::text::number_within;
-use super::text::split_word;
 use history::call::Call;
 use names::Priority;
 use names::Threshold;
 use names::Timing;
+use text::NumberFault;
+use text::read_number;
+use text::split_word;
 
 const BYTE_TOP: u32 = 255;
 
@@ -40,10 +40,11 @@ impl Arguments<'_> {
         };
         self.rest = rest;
         self.taken += 1;
-        if !is_number(word) {
-            return Err(Mistake::NotANumber(self.taken));
+        match read_number(word, top) {
+            Ok(n) => Ok(n),
+            Err(NumberFault::NotDigits) => Err(Mistake::NotANumber(self.taken)),
+            Err(NumberFault::AboveTop) => Err(Mistake::TooLarge(self.taken)),
         }
-        number_within(word, top).ok_or(Mistake::TooLarge(self.taken))
     }
 
     // The call, where no argument is left.

@@ -7,7 +7,6 @@ ghost use Rattle.sheet.specs.Views.{table-of};
 ghost use Rattle.script.specs.Lines.{script-of, calls-in};
 use super::line::Line;
 use super::parse::read_line;
-use super::text::split_line;
 use history::Transcript;
 use history::call::Answer;
 use history::call::Call;
@@ -15,6 +14,7 @@ use history::replay;
 use sheet::table::Sheet;
 use std::alloc::AllocError;
 use std::alloc::Global;
+use text::split_line;
 
 /// What each line of a text says, the answers to its calls, in their order, and the sheet that they leave.
 #[derive(Drop)]

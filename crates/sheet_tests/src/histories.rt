@@ -3,6 +3,7 @@ use history::call::AnswerDebug;
 use history::call::AnswerPartialEq;
 use history::call::Call;
 use history::replay;
+use history::replay_into;
 use names::Priority;
 use names::Threshold;
 use names::Timing;
@@ -77,4 +78,18 @@ fn a_replay_with_repeats_and_refusals(rt: LibcRuntime) -> Result<(), Fail> {
         check_eq(shown(transcript.sheet.row(Priority(p))), expected)?;
     }
     Ok(())
+}
+
+#[test]
+fn a_replay_into_a_list() -> Result<(), Fail> {
+    let calls = [enter(2, 20), strike(3)];
+    let other = Answer::Refused(Refusal::NoColumn(9));
+    let mut answers = [other; 3];
+    check_eq(replay_into(&calls, &mut answers[0..1]).is_ok(), false)?;
+    check_eq(answers, [other; 3])?;
+    match replay_into(&calls, &mut answers) {
+        Ok(sheet) => check_eq(shown(sheet.row(Priority(2))), (20, 1))?,
+        Err(refusal) => check_eq(refusal.number(), 0)?,
+    }
+    check_eq(answers, [DONE, Answer::Refused(Refusal::NoRow(3)), other])
 }

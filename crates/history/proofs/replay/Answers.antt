@@ -1,21 +1,23 @@
-use Rattle.std.specs.Of.Vec.{vec-items}
+use Prim.Native.Nat.{ℕ, _≤_}
+use mathlib.Core.List.{List}
+use mathlib.Core.Path.{_≡_, sym, subst, _∙_}
 use native.Mathlib.Omega.{arith}
-use Rattle.std.proofs.shelf.Results.{err-from-errBy}
-use Rattle.history.specs.declared.call.Call.{Call}
-use Rattle.history.specs.declared.call.Call.the-variants.{Enter}
+use lib.ListN.{length, take, drop}
+use Rattle.std.proofs.shelf.Lists.{take-all, take-at}
+use Rattle.theory.specs.History.{Replayed}
 use Rattle.sheet.specs.Views.{table-of}
-use Rattle.history.proofs.Replaying.{one-more, all-made}
+use Rattle.history.specs.declared.call.Answer.{Answer}
+use Rattle.history.specs.Calls.{edits-of, faults-in}
 use Rattle.history.proofs.replay.Needs as need
 
-pub loop-call-again : need.loop-call-again
-loop-call-again c =
-    let d : Call = Enter (record { 0 = 0 }) (record { «run_time» = 0; separation = 0; deadline = 0 }) in
-    one-more (c .args .calls .now) (c .loop-call .call-index) d (vec-items (c .loop-call .answers)) (vec-items (c .push .last .self)) (c .apply .result)
-    (table-of (c .loop-call .sheet)) (table-of (c .apply .last .sheet)) (omega arith) (c .loop-call .inv) (c .apply .ensures)
-    (c .in-Continue-push .ensures tt .items)
-
-pub returns-in-Break-push : need.returns-in-Break-push
-returns-in-Break-push c = let p = err-from-errBy (c .from-residual .result) (c .from-residual .ensures .1) in rw (p .1) tt
-
+-- the list is as long as the calls, so its front is the whole
 pub returns : need.returns
-returns c = all-made _ _ _ _ (omega arith) (c .loop-call .inv)
+returns c =
+    let calls = c .args .calls .now in
+    let last = c .make-calls-sheet .last .answers in
+    let len = c .in-Continue-answers .answers .len in
+    let same : length last ≡ len = omega arith in
+    let few : length last ≤ length calls = omega (arith, c .in-Continue-answers .ensures tt .made .1) in
+    let rest = drop (length last) (c .in-Continue-answers .answers .items) in
+    subst (λ (l : List Answer). Replayed (edits-of calls) (faults-in l) (table-of (c .make-calls-sheet .result)))
+    (take-all (length calls) last few ∙ sym (take-at last rest len same)) (c .make-calls-sheet .ensures .replays)

@@ -2,7 +2,7 @@ use mathlib.Core.List.{_++_, map}
 use mathlib.Core.Path.{_≡_}
 use lib.ListN.{length}
 use Rattle.std.specs.Of.Vec.{vec-items}
-use Rattle.script.specs.Text.{lines}
+use Rattle.text.specs.Text.{lines}
 use Rattle.script.specs.Lines.{line-of, script-of}
 use Rattle.script.proofs.run.read_lines.Given as given
 
