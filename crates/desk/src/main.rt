@@ -6,8 +6,7 @@ use names::Priority;
 use names::refusal::Refusal;
 use script::answer::answer_line;
 use script::answer::mistake_line;
-use script::line::Line;
-use script::run::Report;
+use script::line::Reply;
 use script::run::run_script;
 use sheet::row::Row;
 use sheet::table::Sheet;
@@ -41,34 +40,17 @@ fn print_answer(rt: &LibcRuntime, call: Call, answer: Answer) -> io::Result<()> 
     }
 }
 
-// Prints what a line of the script came to; a line that asks a call has the next answer.
-fn print_line(
-    rt: &LibcRuntime,
-    number: usize,
-    line: Line,
-    next: Option<&Answer>,
-) -> io::Result<bool> {
-    match line {
-        Line::Blank => Ok(false),
-        Line::Asks(call) => {
-            if let Some(answer) = next {
-                print_answer(rt, call, *answer)?;
-            }
-            Ok(true)
-        }
-        Line::Wrong(mistake) => {
-            rt.println(mistake_line(number, mistake, rt.alloc())?)?;
-            Ok(false)
-        }
+fn print_reply(rt: &LibcRuntime, number: usize, reply: Reply) -> io::Result<()> {
+    match reply {
+        Reply::Nothing => Ok(()),
+        Reply::Answered(call, answer) => print_answer(rt, call, answer),
+        Reply::Mistaken(mistake) => rt.println(mistake_line(number, mistake, rt.alloc())?),
     }
 }
 
-fn print_answers(rt: &LibcRuntime, report: &Report) -> io::Result<()> {
-    let mut asked: usize = 0;
-    for (i, line) in report.lines.iter().enumerate() {
-        if print_line(rt, i + 1, *line, report.answers.get(asked))? {
-            asked += 1;
-        }
+fn print_replies(rt: &LibcRuntime, replies: &[Reply]) -> io::Result<()> {
+    for (i, reply) in replies.iter().enumerate() {
+        print_reply(rt, i + 1, *reply)?;
     }
     Ok(())
 }
@@ -107,7 +89,7 @@ fn run(rt: &LibcRuntime) -> Result<(), AnyError> {
         return Err("the script is longer than 1048576 bytes".into());
     }
     let report = run_script(&text, rt.alloc())?;
-    print_answers(rt, &report)?;
+    print_replies(rt, &report.replies)?;
     println!(rt)?;
     print_sheet(rt, &report.sheet)?;
     Ok(())

@@ -1,3 +1,4 @@
+use history::call::Answer;
 use history::call::Call;
 
 /// What is wrong with a line that is no call. Arguments are counted from 1.
@@ -16,4 +17,12 @@ pub enum Line {
     Blank,
     Asks(Call),
     Wrong(Mistake),
+}
+
+/// What a line of a script comes to.
+#[derive(Clone, Copy)]
+pub enum Reply {
+    Nothing,
+    Answered(Call, Answer),
+    Mistaken(Mistake),
 }

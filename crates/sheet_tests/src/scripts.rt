@@ -3,19 +3,30 @@ use names::Priority;
 use script::answer::answer_line;
 use script::answer::mistake_line;
 use script::line::Line;
+use script::line::Reply;
 use script::parse::read_line;
 use script::run::run_script;
 use std::alloc::AllocError;
 use std::alloc::Global;
 use std::test::*;
 
-// What a line comes to on a fresh sheet, as desk would print it; nothing for a blank line.
-fn told(text: &[u8], heap: Global) -> Result<String, AllocError> {
-    match read_line(text) {
-        Line::Blank => String::from_str(heap, ""),
-        Line::Asks(call) => answer_line(call, Answer::Accepted, heap),
-        Line::Wrong(mistake) => mistake_line(7, mistake, heap),
+// A reply as desk prints it, but for reasons; nothing for a blank line.
+fn shown(number: usize, reply: Reply, heap: Global) -> Result<String, AllocError> {
+    match reply {
+        Reply::Nothing => String::from_str(heap, ""),
+        Reply::Answered(call, answer) => answer_line(call, answer, heap),
+        Reply::Mistaken(mistake) => mistake_line(number, mistake, heap),
     }
+}
+
+// A line as line 7, its call accepted.
+fn told(text: &[u8], heap: Global) -> Result<String, AllocError> {
+    let reply = match read_line(text) {
+        Line::Blank => Reply::Nothing,
+        Line::Asks(call) => Reply::Answered(call, Answer::Accepted),
+        Line::Wrong(mistake) => Reply::Mistaken(mistake),
+    };
+    shown(7, reply, heap)
 }
 
 #[test]
@@ -75,12 +86,20 @@ fn lines(rt: LibcRuntime) -> Result<(), Fail> {
 
 #[test]
 fn a_script(rt: LibcRuntime) -> Result<(), Fail> {
-    let report = run_script(
-        b"enter 1 20 50 50\nenter 1\n\nstrike 2\ncap 1 1",
-        rt.alloc(),
-    )?;
-    check_eq(report.lines.len(), 5)?;
-    check_eq(report.answers.len(), 3)?;
+    let script = b"enter 1 20 50 50\nenter 1\n\nstrike 2\ncap 1 1";
+    let report = run_script(script, rt.alloc())?;
+    let expected = [
+        "entered 1",
+        "line 2: too few arguments",
+        "",
+        "refused 6 at 2",
+        "capped 1 at 1",
+    ];
+    check_eq(report.replies.len(), expected.len())?;
+    for (i, (reply, line)) in report.replies.iter().zip(expected.iter()).enumerate() {
+        let text = shown(i + 1, *reply, rt.alloc())?;
+        check_eq(text.as_str(), *line)?;
+    }
     check(report.sheet.row(Priority(1)).is_some())?;
     check(report.sheet.row(Priority(2)).is_none())
 }
