@@ -5,11 +5,10 @@ use native.Mathlib.Omega.{arith}
 use mathlib.Core.Bool.{Bool, true, false, cond, not, _||_}
 use mathlib.Core.List.{List, [], _∷_}
 use mathlib.Core.Path.{_≡_, refl, sym, ap, subst, _∙_}
-use lib.Dec.{eqb}
 use lib.ListN.{length, getD, take, drop, length-drop}
 use Rattle.std.proofs.shelf.Lists.{getD-drop, drop-drop}
 use Rattle.std.proofs.shelf.Ways.{tells}
-use Rattle.text.specs.Text.{in-front, lines, blank, hash, wordy, goes-on, words}
+use Rattle.text.specs.Text.{in-front, line-end, lines, blank, hash, wordy, goes-on, words}
 
 blank-not-hash : (b : ℕ) → blank b ≡ true → hash b ≡ false
 blank-not-hash b h = grind (arith, tells)
@@ -99,18 +98,24 @@ module _ (text : List ℕ) (n : ℕ) (start : List ℕ) (is : start ≡ drop n t
       at-start ∙ words-first start m pos l all stops
       ∙ ap (λ (x : List ℕ). x ∷ words (drop m start)) (sym w) ∙ ap (λ (x : List ℕ). word ∷ words x) (sym r)
 
+undo : (x y : Bool) → not x ≡ not y → x ≡ y
+undo true true e = refl
+undo true false e = sym e
+undo false true e = sym e
+undo false false e = refl
+
 -- n bytes that end no line, and then a line end or nothing, are the first line
-pub lines-first : (text : List ℕ) (n : ℕ) → 0 < length text → n ≤ length text → ((k : ℕ) → k < n → eqb (getD text k 0) 10 ≡ false) →
-    (n < length text → eqb (getD text n 0) 10 ≡ true) → lines text ≡ take n text ∷ lines (drop (suc n) text)
+pub lines-first : (text : List ℕ) (n : ℕ) → 0 < length text → n ≤ length text → ((k : ℕ) → k < n → not (line-end (getD text k 0)) ≡ true) →
+    (n < length text → not (line-end (getD text n 0)) ≡ false) → lines text ≡ take n text ∷ lines (drop (suc n) text)
 unfolding in-front lines
 lines-first [] n some l all stops = absurd (not-suc-le-zero some)
-lines-first (b ∷ bs) zero some l all stops = ap (λ (v : Bool). cond v ([] ∷ lines bs) (in-front b (lines bs))) (stops (omega arith))
+lines-first (b ∷ bs) zero some l all stops = ap (λ (v : Bool). cond v ([] ∷ lines bs) (in-front b (lines bs))) (undo (line-end b) true (stops (omega arith)))
 lines-first (b ∷ []) (suc n) some l all stops =
     let z : n ≡ 0 = omega arith in
-    ap (λ (v : Bool). cond v ([] ∷ lines []) (in-front b (lines []))) (all 0 (omega arith))
+    ap (λ (v : Bool). cond v ([] ∷ lines []) (in-front b (lines []))) (undo (line-end b) false (all 0 (omega arith)))
     ∙ ap (λ (m : ℕ). take (suc m) (b ∷ []) ∷ lines (drop (suc (suc m)) (b ∷ []))) (sym z)
 lines-first (b ∷ (c ∷ cs)) (suc n) some l all stops =
-    ap (λ (v : Bool). cond v ([] ∷ lines (c ∷ cs)) (in-front b (lines (c ∷ cs)))) (all 0 (omega arith))
+    ap (λ (v : Bool). cond v ([] ∷ lines (c ∷ cs)) (in-front b (lines (c ∷ cs)))) (undo (line-end b) false (all 0 (omega arith)))
     ∙ ap (in-front b) (lines-first (c ∷ cs) n (omega arith) (le-of-suc-le-suc l) (λ k h. all (suc k) (omega arith)) (λ h. stops (omega arith)))
 
 drop-one : (e : List ℕ) → drop (min (length e) 1) e ≡ drop 1 e
@@ -127,7 +132,7 @@ module _ (text : List ℕ) (n : ℕ) (line end rest : List ℕ) (is : line ≡ t
   pub rest-shorter : 0 < length text → length rest < length text
   rest-shorter some = let l = ap length rest-is ∙ length-drop (suc n) text in omega arith
 
-  pub cut-line : 0 < length text → n ≤ length text → ((k : ℕ) → k < n → eqb (getD text k 0) 10 ≡ false) → (n < length text → eqb (getD text n 0) 10 ≡ true) →
+  pub cut-line : 0 < length text → n ≤ length text → ((k : ℕ) → k < n → not (line-end (getD text k 0)) ≡ true) → (n < length text → not (line-end (getD text n 0)) ≡ false) →
       lines text ≡ line ∷ lines rest
   cut-line some l all stops =
       lines-first text n some l all stops ∙ ap (λ (x : List ℕ). x ∷ lines (drop (suc n) text)) (sym is) ∙ ap (λ (x : List ℕ). line ∷ lines x) (sym rest-is)

@@ -1,2 +1,3 @@
-pub mod Text
+pub mod Classes
 pub mod Numbers
+pub mod Text

@@ -4,14 +4,17 @@ use mathlib.Core.Bool.{Bool, true, false, cond, not, _&&_, _||_}
 use mathlib.Core.List.{List, [], _∷_}
 use lib.Dec.{leb, eqb}
 
--- the lines of a text, which byte 10 ends; what follows the last of them is a line if it is not empty
+abbrev pub line-end : ℕ → Bool
+line-end b = eqb b 10
+
+-- the lines of a text, each up to its line end; what follows the last of them is a line if it is not empty
 unfoldable pub in-front : ℕ → List (List ℕ) → List (List ℕ)
 in-front b [] = (b ∷ []) ∷ []
 in-front b (l ∷ ls) = (b ∷ l) ∷ ls
 
 unfoldable pub lines : List ℕ → List (List ℕ)
 lines [] = []
-lines (b ∷ bs) = cond (eqb b 10) ([] ∷ lines bs) (in-front b (lines bs))
+lines (b ∷ bs) = cond (line-end b) ([] ∷ lines bs) (in-front b (lines bs))
 
 -- a space, a tab or a carriage return
 abbrev pub blank : ℕ → Bool

@@ -3,11 +3,11 @@ ghost use Prim.Native.Nat.{ℕ, _≤_, _<_};
 ghost use mathlib.Core.Bool.{true, false};
 ghost use mathlib.Core.List.{[], _∷_};
 ghost use mathlib.Core.Path.{_≡_};
-ghost use lib.Dec.{eqb};
 ghost use lib.ListN.{length, getD};
 ghost use Rattle.std.specs.Options.{Cases as BySome};
+ghost use Rattle.text.specs.Classes.{in-class};
 ghost use Rattle.text.specs.Numbers.{number-in};
-ghost use Rattle.text.specs.Text.{lines, blank, wordy, words, digit, all-digits, spelled};
+ghost use Rattle.text.specs.Text.{lines, blank, words, digit, all-digits, spelled};
 
 /// Why a word is not read as a number.
 #[derive(Clone, Copy, PartialEq, Eq, Debug)]
@@ -16,40 +16,38 @@ pub enum NumberFault {
     AboveTop,
 }
 
+// The bytes between words, those of words, and those of lines.
+#[derive(Clone, Copy)]
+enum Class {
+    Blank,
+    Word,
+    Line,
+}
+
 fn is_blank(b: u8) -> bool
     ensures { λ r. ⌜ r ≡ blank b ⌝ }
 {
     b == b' ' || b == b'\t' || b == b'\r'
 }
 
-fn is_wordy(b: u8) -> bool
-    ensures { λ r. ⌜ r ≡ wordy b ⌝ }
+fn belongs(b: u8, class: Class) -> bool
+    ensures { λ r. ⌜ r ≡ in-class class b ⌝ }
 {
-    !is_blank(b) && b != b'#'
-}
-
-// How many blanks a text begins with.
-fn blanks(text: &[u8]) -> usize
-    ensures within { λ r. ⌜ r ≤ length (now (text .entry)) ⌝ }
-    ensures all { λ r. ⌜ ((k : ℕ) → k < r → blank (getD (now (text .entry)) k 0) ≡ true) ⌝ }
-    ensures stops { λ r. ⌜ (r < length (now (text .entry)) → blank (getD (now (text .entry)) r 0) ≡ false) ⌝ }
-{
-    for (i, b) in text.iter().enumerate() {
-        if !is_blank(*b) {
-            return i;
-        }
+    match class {
+        Class::Blank => is_blank(b),
+        Class::Word => !is_blank(b) && b != b'#',
+        Class::Line => b != b'\n',
     }
-    text.len()
 }
 
-// How many bytes of a word a text begins with.
-fn word_len(text: &[u8]) -> usize
+// How many bytes of a class a text begins with.
+fn run_len(text: &[u8], class: Class) -> usize
     ensures within { λ r. ⌜ r ≤ length (now (text .entry)) ⌝ }
-    ensures all { λ r. ⌜ ((k : ℕ) → k < r → wordy (getD (now (text .entry)) k 0) ≡ true) ⌝ }
-    ensures stops { λ r. ⌜ (r < length (now (text .entry)) → wordy (getD (now (text .entry)) r 0) ≡ false) ⌝ }
+    ensures all { λ r. ⌜ ((k : ℕ) → k < r → in-class class (getD (now (text .entry)) k 0) ≡ true) ⌝ }
+    ensures stops { λ r. ⌜ (r < length (now (text .entry)) → in-class class (getD (now (text .entry)) r 0) ≡ false) ⌝ }
 {
     for (i, b) in text.iter().enumerate() {
-        if !is_wordy(*b) {
+        if !belongs(*b, class) {
             return i;
         }
     }
@@ -60,26 +58,12 @@ fn word_len(text: &[u8]) -> usize
 pub fn split_word(text: &[u8]) -> Option<(&[u8], &[u8])>
     ensures { λ r. ⌜ BySome r (words (now (text .entry)) ≡ []) (λ x. words (now (text .entry)) ≡ now (x .0) ∷ words (now (x .1))) ⌝ }
 {
-    let (_, start) = text.split_at(blanks(text));
-    let len = word_len(start);
+    let (_, start) = text.split_at(run_len(text, Class::Blank));
+    let len = run_len(start, Class::Word);
     if len == 0 {
         return None;
     }
     Some(start.split_at(len))
-}
-
-// How many bytes stand before the first line end.
-fn line_len(text: &[u8]) -> usize
-    ensures within { λ r. ⌜ r ≤ length (now (text .entry)) ⌝ }
-    ensures all { λ r. ⌜ ((k : ℕ) → k < r → eqb (getD (now (text .entry)) k 0) 10 ≡ false) ⌝ }
-    ensures stops { λ r. ⌜ (r < length (now (text .entry)) → eqb (getD (now (text .entry)) r 0) 10 ≡ true) ⌝ }
-{
-    for (i, b) in text.iter().enumerate() {
-        if *b == b'\n' {
-            return i;
-        }
-    }
-    text.len()
 }
 
 /// The first line of a text, without its end, and the text after it; none where the text is empty.
@@ -90,8 +74,7 @@ pub fn split_line(text: &[u8]) -> Option<(&[u8], &[u8])>
     if text.is_empty() {
         return None;
     }
-    let len = line_len(text);
-    let (line, end) = text.split_at(len);
+    let (line, end) = text.split_at(run_len(text, Class::Line));
     let (_, rest) = end.split_at(end.len().min(1));
     Some((line, rest))
 }

@@ -13,7 +13,7 @@ returns-then-is-empty c = record { cuts = no-lines (c .args .text .now) (search 
 pub returns : need.returns
 returns c =
     let text = c .args .text .now in
-    let n = c .line-len-len .result in
+    let n = c .run-len .result in
     let line = c .split-at .result .0 .now in
     let end = c .split-at .result .1 .now in
     let rest = c .split-at-2 .result .1 .now in
@@ -22,6 +22,6 @@ returns c =
     record {
       cuts =
           cut-line text n line end rest (c .split-at .ensures .front) (c .split-at .ensures .back) after some
-          (c .line-len-len .ensures .within) (c .line-len-len .ensures .all) (c .line-len-len .ensures .stops);
+          (c .run-len .ensures .within) (c .run-len .ensures .all) (c .run-len .ensures .stops);
       shorter = rest-shorter text n line end rest (c .split-at .ensures .front) (c .split-at .ensures .back) after some;
     }

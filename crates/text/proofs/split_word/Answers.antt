@@ -10,11 +10,11 @@ use Rattle.text.proofs.split_word.Needs as need
 pub returns-then-len-eq0 : need.returns-then-len-eq0
 returns-then-len-eq0 c =
     let start = c .split-at .result .1 .now in
-    cut-none (c .args .text .now) (c .blanks .result) start (c .split-at .ensures .back) (c .blanks .ensures .within) (c .blanks .ensures .all) (c .blanks .ensures .stops)
-    (subst (λ (m : ℕ). m < length start → wordy (getD start m 0) ≡ false) (c .if-len-eq0 .taken) (c .word-len-len .ensures .stops))
+    cut-none (c .args .text .now) (c .run-len .result) start (c .split-at .ensures .back) (c .run-len .ensures .within) (c .run-len .ensures .all) (c .run-len .ensures .stops)
+    (subst (λ (m : ℕ). m < length start → wordy (getD start m 0) ≡ false) (c .if-len-eq0 .taken) (c .run-len-len .ensures .stops))
 
 pub returns : need.returns
 returns c =
-    cut-first (c .args .text .now) (c .blanks .result) (c .split-at .result .1 .now) (c .split-at .ensures .back) (c .blanks .ensures .within) (c .blanks .ensures .all) (c .blanks .ensures .stops)
-    (c .word-len-len .result) (c .split-at-2 .result .0 .now) (c .split-at-2 .result .1 .now) (omega arith)
-    (c .word-len-len .ensures .within) (c .word-len-len .ensures .all) (c .word-len-len .ensures .stops) (c .split-at-2 .ensures .front) (c .split-at-2 .ensures .back)
+    cut-first (c .args .text .now) (c .run-len .result) (c .split-at .result .1 .now) (c .split-at .ensures .back) (c .run-len .ensures .within) (c .run-len .ensures .all) (c .run-len .ensures .stops)
+    (c .run-len-len .result) (c .split-at-2 .result .0 .now) (c .split-at-2 .result .1 .now) (omega arith)
+    (c .run-len-len .ensures .within) (c .run-len-len .ensures .all) (c .run-len-len .ensures .stops) (c .split-at-2 .ensures .front) (c .split-at-2 .ensures .back)
