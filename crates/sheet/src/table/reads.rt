@@ -16,7 +16,8 @@ impl Sheet {
     pub fn new() -> Sheet
         ensures { λ r. ⌜ ((p : ℕ) → table-of r p ≡ None) ⌝ }
     {
-        Sheet { rows: [None; 32] }
+        let rows = [None; 32];
+        Sheet { rows }
     }
 
     /// The row at a priority; none where there is none, and none outside 1 to 32.
