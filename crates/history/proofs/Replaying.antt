@@ -6,14 +6,13 @@ use mathlib.Core.Path.{_≡_, refl, sym, ap, _∙_}
 use lib.ListN.{length, getD, length-map}
 use Rattle.std.proofs.shelf.Lists.{map-push}
 use Rattle.std.specs.Finite.{nth}
-use Rattle.std.specs.declared.option.Option.{Option}
-use Rattle.std.specs.declared.option.Option.the-variants.{Some, None}
+use Rattle.std.specs.declared.option.Option.the-variants.{Some}
 use Rattle.history.specs.declared.call.Call.{Call}
 use Rattle.history.specs.declared.call.Answer.{Answer}
 use Rattle.theory.specs.Figures.{Table}
 use Rattle.theory.specs.Edits.{Edited}
 use Rattle.theory.specs.History.{Replayed}
-use Rattle.theory.proofs.Histories.{So-far, start, turn, done}
+use Rattle.theory.proofs.Histories.{So-far, turn, done}
 use Rattle.theory.proofs.Decided.{decided}
 use Rattle.history.specs.Calls.{edit-of, fault-in, some-edit, edits-of, faults-in}
 

@@ -1,6 +1,6 @@
 -- What a line of text says: nothing, a call, or a mistake.
-use Prim.Native.Nat.{ℕ, _+_}
-use mathlib.Core.Bool.{Bool, true, false, cond}
+use Prim.Native.Nat.{ℕ}
+use mathlib.Core.Bool.{cond}
 use mathlib.Core.List.{List, [], _∷_, map}
 use lib.Chars.{codes}
 use lib.ListN.{drop}

@@ -4,9 +4,9 @@ use mathlib.Core.Bool.{Bool, true, false, cond}
 use mathlib.Core.Path.{_≡_, refl, ap, _∙_}
 use lib.ListN.{getD, replicate}
 use Rattle.std.specs.declared.option.Option.{Option}
-use Rattle.std.specs.declared.option.Option.the-variants.{Some, None}
+use Rattle.std.specs.declared.option.Option.the-variants.{None}
 use Rattle.sheet.specs.declared.row.Row.{Row}
-use Rattle.theory.specs.Figures.{Figures, priorities, within}
+use Rattle.theory.specs.Figures.{priorities, within}
 use Rattle.sheet.specs.Views.{figures}
 
 pub getD-same : {A : Type 0} (d : A) (n k : ℕ) → getD (replicate n d) k d ≡ d

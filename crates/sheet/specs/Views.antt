@@ -1,5 +1,5 @@
 -- The program's rows and sheets as plain figures.
-use Prim.Native.Nat.{ℕ, _-_}
+use Prim.Native.Nat.{_-_}
 use mathlib.Core.Bool.{cond}
 use lib.ListN.{getD}
 use Rattle.std.specs.declared.option.Option.{Option}

@@ -1,17 +1,17 @@
 -- The law of histories leaves one answer to each edit, and one sheet at the end.
 use Prim.Native.Nat.{ℕ, zero, suc, _<_}
-use native.Mathlib.Nat.{not-suc-le-zero, le-of-suc-le-suc, eq-or-lt-of-le}
+use native.Mathlib.Nat.{not-suc-le-zero}
 use native.Mathlib.Omega.{arith}
 use mathlib.Core.List.{List, [], _∷_}
-use mathlib.Core.Path.{_≡_, refl, sym, ap, _∙_, fun-ext}
+use mathlib.Core.Path.{_≡_, sym, ap, _∙_, fun-ext}
 use lib.ListN.{length}
 use Rattle.std.specs.Finite.{nth}
 use Rattle.std.specs.declared.option.Option.{Option}
-use Rattle.std.specs.declared.option.Option.the-variants.{Some, None}
-use Rattle.theory.specs.Figures.{Figures, Table, Fault}
+use Rattle.std.specs.declared.option.Option.the-variants.{Some}
+use Rattle.theory.specs.Figures.{Table, Fault}
 use Rattle.theory.specs.Edits.{Edit, refusal}
-use Rattle.theory.specs.History.{Accepted, Told, History, Decided, Calls-decide}
-use Rattle.theory.proofs.Standing.{Row-is, row-one, row-told, accepted-one}
+use Rattle.theory.specs.History.{Accepted, Told, History, Calls-decide}
+use Rattle.theory.proofs.Standing.{row-one, row-told, accepted-one}
 use Rattle.theory.proofs.Growing.{Agree, row-over}
 
 nth-within : {X : Type 0} (xs : List X) (i : ℕ) (x : X) → nth xs i ≡ Some x → i < length xs

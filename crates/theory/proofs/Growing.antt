@@ -10,7 +10,7 @@ use mathlib.Core.Path.{_≡_, refl, sym, ap, subst, _∙_}
 use lib.Dec.{eqb}
 use Rattle.std.specs.declared.option.Option.{Option}
 use Rattle.std.specs.declared.option.Option.the-variants.{Some, None}
-use Rattle.theory.specs.Figures.{Timing, Figures, Table, Fault, fault, is-row, with-row, priorities, within}
+use Rattle.theory.specs.Figures.{Timing, Figures, Table, Fault, is-row, priorities, within}
 use Rattle.theory.specs.Edits.{Edit, enter, strike, limit, unless, refusal, capped, left-by}
 use Rattle.theory.specs.History.{Uncapped, LastCap, Stands}
 use Rattle.theory.proofs.Standing.{Row-is}
@@ -32,58 +32,42 @@ named (limit p k) = p
 abbrev pub Quiet : (ℕ → Edit → Type 0) → ℕ → ℕ → Type 0
 Quiet A n p = (e : Edit) → A n e → named e ≡ p → ⊥
 
-module _ (A : ℕ → Edit → Type 0) (n p : ℕ) (quiet : Quiet A n p) where
-  earlier : (j : ℕ) (e : Edit) → named e ≡ p → j < n + 1 → A j e → j < n
-  earlier j e h l a = ⊎-elim (λ eq. absurd (quiet e (subst (λ (m : ℕ). A m e) eq a) h)) (λ lt. lt) (split j n l)
+-- what A accepts before n that names p, B accepts before m
+abbrev Carries : (ℕ → Edit → Type 0) → ℕ → (ℕ → Edit → Type 0) → ℕ → ℕ → Type 0
+Carries A n B m p = (j : ℕ) (e : Edit) → named e ≡ p → j < n → A j e → (j < m) × B j e
 
-  uncapped-more : (i : ℕ) → Uncapped A i n p → Uncapped A i (n + 1) p
-  uncapped-more i u = λ j k ij jn a. u j k ij (earlier j (limit p k) refl jn a) a
+-- A row at p depends on nothing but the accepted edits that name p.
+module _ (A : ℕ → Edit → Type 0) (n : ℕ) (B : ℕ → Edit → Type 0) (m p : ℕ) (to : Carries A n B m p) (back : Carries B m A n p) where
+  uncapped-carried : (i : ℕ) → Uncapped A i n p → Uncapped B i m p
+  uncapped-carried i u = λ j k ij jm b. let h = back j (limit p k) refl jm b in u j k ij (h .0) (h .1)
 
-  uncapped-less : (i : ℕ) → Uncapped A i (n + 1) p → Uncapped A i n p
-  uncapped-less i u = λ j k ij jn a. u j k ij (omega arith) a
+  cap-carried : (i k : ℕ) → LastCap A i n p k ⊎ ((k ≡ 1) × Uncapped A i n p) → LastCap B i m p k ⊎ ((k ≡ 1) × Uncapped B i m p)
+  cap-carried i k (inl h) =
+      let g = to (h .place) (limit p k) refl (h .before) (h .accepted) in
+      inl (record { place = h .place; after = h .after; before = g .0; accepted = g .1; latest = uncapped-carried (h .place) (h .latest) })
+  cap-carried i k (inr h) = inr (h .0, uncapped-carried i (h .1))
 
-  cap-more : (i k : ℕ) → LastCap A i n p k ⊎ ((k ≡ 1) × Uncapped A i n p) → LastCap A i (n + 1) p k ⊎ ((k ≡ 1) × Uncapped A i (n + 1) p)
-  cap-more i k (inl h) =
-      inl (record { place = h .place; after = h .after; before = omega (arith, h .before); accepted = h .accepted; latest = uncapped-more (h .place) (h .latest) })
-  cap-more i k (inr h) = inr (h .0, uncapped-more i (h .1))
-
-  cap-less : (i k : ℕ) → LastCap A i (n + 1) p k ⊎ ((k ≡ 1) × Uncapped A i (n + 1) p) → LastCap A i n p k ⊎ ((k ≡ 1) × Uncapped A i n p)
-  cap-less i k (inl h) =
-      inl
-      (record {
-        place = h .place;
-        after = h .after;
-        before = earlier (h .place) (limit p k) refl (h .before) (h .accepted);
-        accepted = h .accepted;
-        latest = uncapped-less (h .place) (h .latest);
-      })
-  cap-less i k (inr h) = inr (h .0, uncapped-less i (h .1))
-
-  stands-more : (f : Figures) → Stands A n p f → Stands A (n + 1) p f
-  stands-more f s =
+  stands-carried : (f : Figures) → Stands A n p f → Stands B m p f
+  stands-carried f s =
+      let g = to (s .place) (enter p (f .timing)) refl (s .before) (s .accepted) in
       record {
         place = s .place;
-        before = omega (arith, s .before);
-        accepted = s .accepted;
-        no-enter = λ j w ij jn a. s .no-enter j w ij (earlier j (enter p w) refl jn a) a;
-        no-strike = λ j ij jn a. s .no-strike j ij (earlier j (strike p) refl jn a) a;
-        capped = cap-more (s .place) (f .limit) (s .capped);
+        before = g .0;
+        accepted = g .1;
+        no-enter = λ j w ij jm b. let h = back j (enter p w) refl jm b in s .no-enter j w ij (h .0) (h .1);
+        no-strike = λ j ij jm b. let h = back j (strike p) refl jm b in s .no-strike j ij (h .0) (h .1);
+        capped = cap-carried (s .place) (f .limit) (s .capped);
       }
 
-  stands-less : (f : Figures) → Stands A (n + 1) p f → Stands A n p f
-  stands-less f s =
-      record {
-        place = s .place;
-        before = earlier (s .place) (enter p (f .timing)) refl (s .before) (s .accepted);
-        accepted = s .accepted;
-        no-enter = λ j w ij jn a. s .no-enter j w ij (omega arith) a;
-        no-strike = λ j ij jn a. s .no-strike j ij (omega arith) a;
-        capped = cap-less (s .place) (f .limit) (s .capped);
-      }
+row-carried : (A : ℕ → Edit → Type 0) (n : ℕ) (B : ℕ → Edit → Type 0) (m p : ℕ) → Carries A n B m p → Carries B m A n p → (o : Option Figures) → Row-is A n p o → Row-is B m p o
+row-carried A n B m p to back None h = λ f s. h f (stands-carried B m A n p back to f s)
+row-carried A n B m p to back (Some f) h = stands-carried A n B m p to back f h
 
-  pub row-quiet : (o : Option Figures) → Row-is A n p o → Row-is A (n + 1) p o
-  row-quiet None h = λ f s. h f (stands-less f s)
-  row-quiet (Some f) h = stands-more f h
+-- one place more at which p is not named
+pub row-quiet : (A : ℕ → Edit → Type 0) (n p : ℕ) → Quiet A n p → (o : Option Figures) → Row-is A n p o → Row-is A (n + 1) p o
+row-quiet A n p quiet =
+    row-carried A n A (n + 1) p (λ j e h l a. (omega arith, a))
+    (λ j e h l a. (⊎-elim (λ eq. absurd (quiet e (subst (λ (k : ℕ). A k e) eq a) h)) (λ lt. lt) (split j n l), a))
 
 -- One place more, at which the edit x is accepted, and no other.
 module _ (A : ℕ → Edit → Type 0) (n : ℕ) (x : Edit) (here : A n x) (only : (y : Edit) → A n y → y ≡ x) where
@@ -164,37 +148,9 @@ rows-granted A n (limit p k) here only rows e was q =
     row-put A n p (capped k (rows p)) rows (row-capped A n p k here only (rows p) e (was p)) was
     (quiet A n (limit p k) here only) q (eqb q p) refl
 
--- what the accepted edits before place n say of the rows depends on nothing else
+-- the same edits accepted before place n
 abbrev pub Agree : (A B : ℕ → Edit → Type 0) → ℕ → Type 0
 Agree A B n = (j : ℕ) (e : Edit) → j < n → A j e → B j e
 
-module _ (A B : ℕ → Edit → Type 0) (n : ℕ) (to : Agree A B n) (back : Agree B A n) where
-  uncapped-over : (i p : ℕ) → Uncapped A i n p → Uncapped B i n p
-  uncapped-over i p u = λ j k ij jn b. u j k ij jn (back j (limit p k) jn b)
-
-  cap-over : (i p k : ℕ) → LastCap A i n p k ⊎ ((k ≡ 1) × Uncapped A i n p) → LastCap B i n p k ⊎ ((k ≡ 1) × Uncapped B i n p)
-  cap-over i p k (inl h) =
-      inl
-      (record {
-        place = h .place;
-        after = h .after;
-        before = h .before;
-        accepted = to (h .place) (limit p k) (h .before) (h .accepted);
-        latest = uncapped-over (h .place) p (h .latest);
-      })
-  cap-over i p k (inr h) = inr (h .0, uncapped-over i p (h .1))
-
-  pub stands-over : (p : ℕ) (f : Figures) → Stands A n p f → Stands B n p f
-  stands-over p f s =
-      record {
-        place = s .place;
-        before = s .before;
-        accepted = to (s .place) (enter p (f .timing)) (s .before) (s .accepted);
-        no-enter = λ j w ij jn b. s .no-enter j w ij jn (back j (enter p w) jn b);
-        no-strike = λ j ij jn b. s .no-strike j ij jn (back j (strike p) jn b);
-        capped = cap-over (s .place) p (f .limit) (s .capped);
-      }
-
-pub row-over : (A B : ℕ → Edit → Type 0) (n : ℕ) (to : Agree A B n) (back : Agree B A n) (p : ℕ) (o : Option Figures) → Row-is A n p o → Row-is B n p o
-row-over A B n to back p None h = λ f s. h f (stands-over B A n back to p f s)
-row-over A B n to back p (Some f) h = stands-over A B n to back p f h
+pub row-over : (A B : ℕ → Edit → Type 0) (n : ℕ) → Agree A B n → Agree B A n → (p : ℕ) (o : Option Figures) → Row-is A n p o → Row-is B n p o
+row-over A B n to back p = row-carried A n B n p (λ j e h l a. (l, to j e l a)) (λ j e h l b. (l, back j e l b))

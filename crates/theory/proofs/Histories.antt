@@ -11,8 +11,8 @@ use Rattle.std.specs.Finite.{nth}
 use Rattle.std.specs.declared.option.Option.{Option}
 use Rattle.std.specs.declared.option.Option.the-variants.{Some, None}
 use Rattle.theory.specs.Figures.{Figures, Table, Fault}
-use Rattle.theory.specs.Edits.{Edit, enter, strike, limit, refusal, left-by, after, Edited}
-use Rattle.theory.specs.History.{Accepted, Stands, Told, Answered, History}
+use Rattle.theory.specs.Edits.{Edit, refusal, left-by, after, Edited}
+use Rattle.theory.specs.History.{Accepted, Told, Answered, History}
 use Rattle.theory.proofs.Standing.{Row-is, told-at, row-told, accepted-one}
 use Rattle.theory.proofs.Growing.{split, rows-granted, row-quiet, row-over}
 
@@ -126,15 +126,6 @@ turn calls n answers answers′ rows rows′ x a so next made more =
       each = each-more calls n answers rows x a rows′ so next made;
       last = rows-made calls n answers rows x a rows′ so next made;
     })
-
--- Before the first call.
-pub start : (calls : List (Option Edit)) (answers : List (Option Fault)) (rows : Table) → answers ≡ [] → ((p : ℕ) → rows p ≡ None) → So-far calls 0 answers rows
-start calls answers rows none bare =
-    record {
-      sizes = ap length none;
-      each = λ m l. absurd (not-suc-le-zero l);
-      last = λ p. subst (λ (o : Option Figures). Row-is (Accepted calls answers) 0 p o) (sym (bare p)) (λ f s. not-suc-le-zero (s .before));
-    }
 
 -- After the last call.
 pub done : (calls : List (Option Edit)) (n : ℕ) (answers : List (Option Fault)) (rows : Table) → n ≡ length calls → So-far calls n answers rows → History calls answers rows

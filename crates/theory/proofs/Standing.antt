@@ -6,9 +6,9 @@ use mathlib.Core.Logic.{_⊎_, inl, inr, ⊎-elim}
 use mathlib.Core.Path.{_≡_, refl, sym, ap, subst, _∙_}
 use Rattle.std.specs.declared.option.Option.{Option}
 use Rattle.std.specs.declared.option.Option.the-variants.{Some, None}
-use Rattle.theory.specs.Figures.{Timing, Figures, Table, Fault}
-use Rattle.theory.specs.Edits.{Edit, enter, strike, limit}
-use Rattle.theory.specs.History.{Accepted, Uncapped, LastCap, Stands, Told}
+use Rattle.theory.specs.Figures.{Figures, Fault}
+use Rattle.theory.specs.Edits.{Edit, enter, limit}
+use Rattle.theory.specs.History.{Accepted, Uncapped, LastCap, Stands}
 
 order : (m n : ℕ) → (m < n) ⊎ ((m ≡ n) ⊎ (n < m))
 order zero zero = inr (inl refl)

@@ -1,8 +1,8 @@
-use Prim.Native.Nat.{ℕ, _≤_}
+use Prim.Native.Nat.{_≤_}
 use mathlib.Core.List.{List}
 use mathlib.Core.Path.{_≡_, sym, subst, _∙_}
 use native.Mathlib.Omega.{arith}
-use lib.ListN.{length, take, drop}
+use lib.ListN.{length, drop}
 use Rattle.std.proofs.shelf.Lists.{take-all, take-at}
 use Rattle.theory.specs.History.{Replayed}
 use Rattle.sheet.specs.Views.{table-of}

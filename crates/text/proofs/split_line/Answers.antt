@@ -1,8 +1,6 @@
 use Prim.Native.Nat.{ℕ, _<_}
-use native.Mathlib.Omega.{arith}
 use borrow.Author.Needs.{needs}
-use mathlib.Core.List.{List}
-use mathlib.Core.Path.{_≡_, ap, _∙_}
+use mathlib.Core.Path.{ap, _∙_}
 use lib.ListN.{length, drop}
 use Rattle.text.proofs.Cutting.{cut-line, rest-shorter, no-lines}
 use Rattle.text.proofs.split_line.Needs as need

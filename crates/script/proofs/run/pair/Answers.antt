@@ -1,4 +1,3 @@
-use mathlib.Core.List.{List}
 use native.Mathlib.Omega.{arith}
 use Rattle.std.specs.Of.Vec.{vec-items}
 use Rattle.script.specs.declared.line.Line.the-variants.{Blank}

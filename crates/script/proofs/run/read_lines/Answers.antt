@@ -1,5 +1,5 @@
-use mathlib.Core.List.{List, _++_, _∷_, []}
-use mathlib.Core.Path.{_≡_, ap, _∙_}
+use mathlib.Core.List.{_++_, _∷_, []}
+use mathlib.Core.Path.{ap, _∙_}
 use Rattle.std.specs.Of.Vec.{vec-items}
 use Rattle.script.specs.declared.line.Line.{Line}
 use Rattle.script.proofs.Saying.{said-more}

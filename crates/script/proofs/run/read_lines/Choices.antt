@@ -1,9 +1,8 @@
-use mathlib.Core.List.{_++_, map}
+use mathlib.Core.List.{_++_}
 use mathlib.Core.Path.{_≡_}
 use lib.ListN.{length}
 use Rattle.std.specs.Of.Vec.{vec-items}
-use Rattle.text.specs.Text.{lines}
-use Rattle.script.specs.Lines.{line-of, script-of}
+use Rattle.script.specs.Lines.{script-of}
 use Rattle.script.proofs.run.read_lines.Given as given
 
 abbrev pub Inv-loop-line : given.InvT-loop-line

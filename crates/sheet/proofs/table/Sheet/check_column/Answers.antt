@@ -1,10 +1,7 @@
-use Prim.Native.Nat.{ℕ, _≤_}
 use mathlib.Core.Logic.{inr}
-use mathlib.Core.Bool.{false}
-use mathlib.Core.Path.{_≡_, refl, ap, sym, _∙_}
+use mathlib.Core.Path.{refl, ap, sym, _∙_}
 use native.Mathlib.Omega.{arith}
-use borrow.Author.Needs.{needs}
-use Rattle.theory.specs.Columns.{entry, fits-at}
+use Rattle.theory.specs.Columns.{fits-at}
 use Rattle.theory.proofs.Entries.{entry-at}
 use Rattle.sheet.specs.Views.{table-of}
 use Rattle.sheet.proofs.table.Sheet.check_column.Needs as need
