@@ -1,0 +1,3 @@
+pub mod RowBits
+pub mod Unions
+pub mod Keeping

@@ -1,0 +1,2 @@
+pub mod RowSets
+pub mod Reckonings

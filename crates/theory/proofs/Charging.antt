@@ -1,0 +1,152 @@
+-- The two laws, for the charges that are reckoned from blocks and for the switch over any charge.
+use Prim.Native.Nat.{ℕ, _+_, _*_, _≤_, min}
+use native.Mathlib.Nat.{mul-le-mul-left}
+use native.Mathlib.Omega.{arith}
+use mathlib.Core.Bool.{Bool, true, false, cond, _&&_, _||_}
+use mathlib.Core.List.{List}
+use mathlib.Core.Logic.{⊎-elim}
+use mathlib.Core.Path.{_≡_, sym, ap, _∙_}
+use lib.Dec.{leb, ltb, eqb}
+use Rattle.std.proofs.shelf.Bits.{mul-le}
+use Rattle.std.proofs.shelf.Tests.{and-parts, and-from, cond-true, cond-false, or-cases, leb-true, eqb-true, ltb-true, lt-ltb}
+use Rattle.theory.specs.Blocks.{Blocks, Reckoned, Sets, cache-sets, size, count-below, meet, in-one, union, counted, largest, largest-to, useful-size, met-size, lost-e, lost-u, lost-v, lost-x, reloads}
+use Rattle.theory.specs.Columns.{entry}
+use Rattle.theory.specs.Delays.{Charge, too-much, asked, affected, some-row, NoGreater, Alike, Lawful, switched}
+use Rattle.theory.specs.Figures.{priorities, Within}
+use Rattle.theory.proofs.Counting.{cond-mono, some-mono, largest-le, largest-mono, count-le, count-mono}
+
+module _ (i b j : ℕ) (g h : List ℕ) (le : NoGreater i b g h) where
+  entry-mono : (k : ℕ) → 1 ≤ k → (leb k i || eqb k b) ≡ true → entry g k ≤ entry h k
+  entry-mono k l e =
+      ⊎-elim
+      (λ u. le .above k (l, leb-true k i u))
+      (λ u. let same : k ≡ b = eqb-true k b u in rw same (le .blocker))
+      (or-cases (leb k i) (eqb k b) e)
+
+  -- what is affected stays so under weaker thresholds
+  pub affected-mono : (k : ℕ) → Within priorities k → affected i b j g k ≡ true → affected i b j h k ≡ true
+  affected-mono k l e =
+      let parts = and-parts _ _ e in
+      let up = entry-mono k (l .0) (parts .1) in
+      let below = ltb-true j (entry g k) (parts .0) in
+      and-from _ _ (lt-ltb j (entry h k) (omega arith)) (parts .1)
+
+  pub some-affected-mono : some-row (affected i b j g) ≡ true → some-row (affected i b j h) ≡ true
+  some-affected-mono = some-mono (affected i b j g) (affected i b j h) priorities (λ k l u. affected-mono k (l, u))
+
+-- every priority that passes p passes q
+abbrev pub Wider : (ℕ → Bool) → (ℕ → Bool) → Type 0
+Wider p q = (k : ℕ) → Within priorities k → p k ≡ true → q k ≡ true
+
+-- What a reckoning owes for the laws: more affected rows lose no fewer blocks, and no more than the cache has.
+pub record Keeps (lost : Reckoned) : Type 0 where
+  pub more : (m : Blocks) (j : ℕ) (p q : ℕ → Bool) → Wider p q → lost m j p ≤ lost m j q
+  pub few : (m : Blocks) (j : ℕ) (p : ℕ → Bool) → lost m j p ≤ cache-sets
+
+module _ (p q : ℕ → Bool) (wider : Wider p q) where
+  wider-some : some-row p ≡ true → some-row q ≡ true
+  wider-some = some-mono p q priorities (λ k l u. wider k (l, u))
+
+  wider-largest : (f : ℕ → ℕ) → largest p f ≤ largest q f
+  unfolding counted
+  wider-largest f =
+      largest-mono (counted p f) (counted q f) priorities (λ k l u. cond-mono (p k) (q k) (f k) (wider k (l, u)))
+
+  wider-union : (x : ℕ → Sets) (s : ℕ) → union p x s ≡ true → union q x s ≡ true
+  unfolding union in-one
+  wider-union x s =
+      some-mono (in-one p x s) (in-one q x s) priorities
+      (λ k l u e. let parts = and-parts _ _ e in and-from _ _ (wider k (l, u) (parts .0)) (parts .1))
+
+size-le : (x : Sets) → size x ≤ cache-sets
+size-le x = count-le x cache-sets
+
+largest-few : (p : ℕ → Bool) (f : ℕ → ℕ) → ((k : ℕ) → f k ≤ cache-sets) → largest p f ≤ cache-sets
+unfolding counted
+largest-few p f each =
+    largest-le (counted p f) cache-sets
+    (λ k. elim (p k) as (λ v. cond v (f k) 0 ≤ cache-sets) [ true ↦ each k | false ↦ omega arith ]) priorities
+
+pub keeps-e : Keeps lost-e
+keeps-e =
+    record {
+      more = λ m j p q wider. cond-mono (some-row p) (some-row q) (size (m .evicting j)) (wider-some p q wider);
+      few = λ m j p. elim (some-row p) as (λ v. cond v (size (m .evicting j)) 0 ≤ cache-sets) [ true ↦ size-le (m .evicting j) | false ↦ omega arith ];
+    }
+
+pub keeps-u : Keeps lost-u
+unfolding useful-size
+keeps-u =
+    record {
+      more = λ m j p q wider. wider-largest p q wider (useful-size m);
+      few = λ m j p. largest-few p (useful-size m) (λ k. size-le (m .useful k));
+    }
+
+pub keeps-v : Keeps lost-v
+unfolding meet
+keeps-v =
+    record {
+      more = λ m j p q wider. count-mono (meet (union p (m .useful)) (m .evicting j)) (meet (union q (m .useful)) (m .evicting j)) cache-sets
+          (λ s e. let parts = and-parts _ _ e in and-from _ _ (wider-union p q wider (m .useful) s (parts .0)) (parts .1));
+      few = λ m j p. size-le (meet (union p (m .useful)) (m .evicting j));
+    }
+
+pub keeps-x : Keeps lost-x
+unfolding met-size
+keeps-x =
+    record {
+      more = λ m j p q wider. wider-largest p q wider (met-size m j);
+      few = λ m j p. largest-few p (met-size m j) (λ k. size-le _);
+    }
+
+-- a reckoning looks at no number but the priorities
+pub lost-same : (lost : Reckoned) → Keeps lost → (m : Blocks) (j : ℕ) (p q : ℕ → Bool) → ((k : ℕ) → Within priorities k → p k ≡ q k) → lost m j p ≡ lost m j q
+lost-same lost keeps m j p q same =
+    let up = keeps .more m j p q (λ k l e. sym (same k l) ∙ e) in
+    let down = keeps .more m j q p (λ k l e. same k l ∙ e) in
+    omega arith
+
+-- a map with a reload time in range
+pub reloads-lawful : (lost : Reckoned) → Keeps lost → (m : Blocks) → m .reload ≤ 1023 → Lawful (reloads lost m)
+reloads-lawful lost keeps m small =
+    record {
+      monotone = λ i b j g h le.
+          let more = mul-le-mul-left (m .reload) (keeps .more m j (affected i b j g) (affected i b j h) (affected-mono i b j g h le)) in
+          elim (asked i b j) as (λ v. cond v (m .reload * lost m j (affected i b j g)) 0 ≤ cond v (m .reload * lost m j (affected i b j h)) 0)
+          [ true ↦ more | false ↦ omega arith ];
+      bounded = λ i b j h.
+          let few = mul-le (m .reload) (lost m j (affected i b j h)) 1023 cache-sets small (keeps .few m j (affected i b j h)) in
+          elim (asked i b j) as (λ v. cond v (m .reload * lost m j (affected i b j h)) 0 ≤ too-much)
+          [ true ↦ omega arith | false ↦ omega arith ];
+    }
+
+pub switched-lawful : (w : ℕ) (c : Charge) → Lawful c → Lawful (switched w c)
+switched-lawful w c laws =
+    record {
+      monotone = λ i b j g h le.
+          let below = laws .monotone i b j g h le in
+          let more = cond-mono (some-row (affected i b j g)) (some-row (affected i b j h)) w (some-affected-mono i b j g h le) in
+          elim (asked i b j) as (λ v. cond v (min (c i b j g + cond (some-row (affected i b j g)) w 0) too-much) 0 ≤ cond v (min (c i b j h + cond (some-row (affected i b j h)) w 0) too-much) 0)
+          [ true ↦ omega arith | false ↦ omega arith ];
+      bounded = λ i b j h.
+          elim (asked i b j) as (λ v. cond v (min (c i b j h + cond (some-row (affected i b j h)) w 0) too-much) 0 ≤ too-much)
+          [ true ↦ omega arith | false ↦ omega arith ];
+    }
+
+module _ (w : ℕ) (c : Charge) (i b j : ℕ) (h : List ℕ) (in-range : asked i b j ≡ true) where
+  pub switched-none : some-row (affected i b j h) ≡ false → c i b j h ≤ too-much → switched w c i b j h ≡ c i b j h
+  switched-none none small =
+      let plain : min (c i b j h + 0) too-much ≡ c i b j h = omega arith in
+      cond-true _ _ _ in-range ∙ ap (λ (n : ℕ). min (c i b j h + n) too-much) (cond-false _ w 0 none) ∙ plain
+
+  pub switched-some : some-row (affected i b j h) ≡ true → switched w c i b j h ≡ min (c i b j h + w) too-much
+  switched-some some = cond-true _ _ _ in-range ∙ ap (λ (n : ℕ). min (c i b j h + n) too-much) (cond-true _ w 0 some)
+
+-- equal numbers are no greater, either way round
+pub alike-charged : (c : Charge) → Lawful c → (i b j : ℕ) (g h : List ℕ) → Alike i b g h → c i b j g ≡ c i b j h
+alike-charged c laws i b j g h same =
+    let there : NoGreater i b g h = record { zeros = same .zeros; above = λ p l. let e = same .above p l in omega arith; blocker = let e = same .blocker in omega arith } in
+    let back : NoGreater i b h g = record { zeros = λ p l. (same .zeros p l .1, same .zeros p l .0); above = λ p l. let e = same .above p l in omega arith; blocker = let e = same .blocker in omega arith } in
+    let up = laws .monotone i b j g h there in
+    let down = laws .monotone i b j h g back in
+    omega arith
