@@ -2,21 +2,22 @@
 use Prim.Native.Nat.{ℕ, zero, suc, _+_, _-_, _*_, _/_, _%_, _^_, _≤_, _<_}
 use native.Mathlib.Omega.{arith}
 use mathlib.Core.Bool.{Bool, true, false, not, _&&_, _||_}
-use mathlib.Core.List.{List, [], _∷_}
+use mathlib.Core.List.{List, [], _∷_, _++_}
 use mathlib.Core.Logic.{⊎-elim}
 use mathlib.Core.Path.{_≡_, refl, sym, ap, ap₂, _∙_}
 use lib.Bits.{bitAnd, bitOr}
 use lib.Count.{ones, trailingZeros}
 use lib.Dec.{eqb}
-use lib.ListN.{getD, length, set}
+use lib.ListN.{getD, length, set, take}
 use lib.Seq.{getD-set-same, getD-set-other}
 use Rattle.std.proofs.shelf.Bits.{and-le-l, div-mul-add, mod-mul-add, one-shl}
+use Rattle.std.proofs.shelf.Lists.{take-more}
 use Rattle.std.proofs.shelf.Tests.{and-parts, cases-lt, cases-eq, ne-eqb, not-true}
 use Rattle.std.proofs.shelf.Ways.{tells}
 use Rattle.std.specs.declared.option.Option.the-variants.{Some}
 use Rattle.theory.specs.Blocks.{Sets, SameSets, Inside, FirstOutside, cache-sets, count-below, size, join, meet}
 use Rattle.theory.proofs.Counting.{count-part, count-same}
-use Rattle.blocks.specs.Members.{all-sets, bit, in-words, no-sets, plus}
+use Rattle.blocks.specs.Members.{all-sets, bit, in-words, listed, no-sets, plus}
 use Rattle.blocks.proofs.Bitwise.{bit-and, bit-or, bit-not, bit-pow, bit-zero, lowest, ones-count}
 
 or-swap : (v w : Bool) → (v || w) ≡ (w || v)
@@ -88,6 +89,22 @@ with-bit words s four-words ls t lt =
     let test : eqb t s ≡ false = ne-eqb t s (λ e. other (ap (λ (n : ℕ). n / 64) e)) in
     ap (λ (n : ℕ). bit n (t % 64)) (getD-set-other words (s / 64) (t / 64) _ 0 other) ∙ sym (ap (λ (v : Bool). v || bit (getD words (t / 64) 0) (t % 64)) test))
     (cases-eq (t / 64) (s / 64))
+
+or-turn : (u v w : Bool) → (u || (v || w)) ≡ (v || (u || w))
+or-turn true true w = refl
+or-turn true false w = refl
+or-turn false true w = refl
+or-turn false false w = refl
+
+listed-push : (xs : List ℕ) (x s : ℕ) → listed (xs ++ (x ∷ [])) s ≡ (eqb s x || listed xs s)
+unfolding listed
+listed-push [] x s = refl
+listed-push (y ∷ ys) x s =
+    ap (λ (v : Bool). eqb s y || v) (listed-push ys x s) ∙ or-turn (eqb s y) (eqb s x) (listed ys s)
+
+-- one listed set more
+pub listed-more : (xs : List ℕ) (k s : ℕ) → k < length xs → listed (take (k + 1) xs) s ≡ (eqb s (getD xs k 0) || listed (take k xs) s)
+listed-more xs k s l = ap (λ (ys : List ℕ). listed ys s) (take-more xs k 0 l) ∙ listed-push (take k xs) (getD xs k 0) s
 
 -- what `a & !b` leaves
 outside-bit : (a b t : ℕ) → b < 2 ^ 64 → t < 64 → bit (bitAnd a ((2 ^ 64 - 1) - b)) t ≡ (bit a t && not (bit b t))

@@ -1,7 +1,7 @@
 -- Sets of the cache's sets as the bits of four words.
 use Prim.Native.Nat.{ℕ, _/_, _%_, _^_}
 use mathlib.Core.Bool.{Bool, true, false, _||_}
-use mathlib.Core.List.{List}
+use mathlib.Core.List.{List, [], _∷_}
 use lib.Dec.{eqb}
 use lib.ListN.{getD}
 use Rattle.theory.specs.Blocks.{Sets}
@@ -27,3 +27,8 @@ all-sets s = true
 -- x and the set s
 abbrev pub plus : Sets → ℕ → Sets
 plus x s t = eqb t s || x t
+
+-- s is in the list
+unfoldable pub listed : List ℕ → Sets
+listed [] s = false
+listed (x ∷ xs) s = eqb s x || listed xs s

@@ -1,6 +1,6 @@
 ghost use mathlib.Core.Path.{_≡_};
 ghost use Rattle.theory.specs.Blocks.{FirstOutside, SameSets, join, meet, size};
-ghost use Rattle.blocks.specs.Members.{all-sets, has, no-sets, plus};
+ghost use Rattle.blocks.specs.Members.{all-sets, has, listed, no-sets, plus};
 
 /// Some of the 256 sets of the cache.
 // Set s is bit s mod 64 of word s div 64.
@@ -40,6 +40,17 @@ impl CacheSets {
         let mut words = self.words;
         words[s as usize / 64] |= 1 << (s % 64);
         CacheSets { words }
+    }
+
+    /// The sets whose numbers are listed.
+    pub fn of(list: &[u8]) -> CacheSets
+        ensures { λ r. ⌜ SameSets (has r) (listed (now (list .entry))) ⌝ }
+    {
+        let mut sets = CacheSets::empty();
+        for s in list {
+            sets = sets.with(*s);
+        }
+        sets
     }
 
     /// The sets that are among these or the others.
