@@ -1,7 +1,7 @@
 -- Sets of cache sets in four words.
 use Prim.Native.Nat.{ℕ, zero, suc, _+_, _-_, _*_, _/_, _%_, _^_, _≤_, _<_}
 use native.Mathlib.Omega.{arith}
-use mathlib.Core.Bool.{Bool, true, false, not, _&&_, _||_}
+use mathlib.Core.Bool.{Bool, true, false, not, or-comm, _&&_, _||_}
 use mathlib.Core.List.{List, [], _∷_, _++_}
 use mathlib.Core.Logic.{⊎-elim}
 use mathlib.Core.Path.{_≡_, refl, sym, ap, ap₂, _∙_}
@@ -19,12 +19,6 @@ use Rattle.theory.specs.Blocks.{Sets, SameSets, Inside, FirstOutside, cache-set
 use Rattle.theory.proofs.Counting.{count-part, count-same}
 use Rattle.blocks.specs.Members.{all-sets, bit, in-words, listed, no-sets, plus}
 use Rattle.blocks.proofs.Bitwise.{bit-and, bit-or, bit-not, bit-pow, bit-zero, lowest, ones-count}
-
-or-swap : (v w : Bool) → (v || w) ≡ (w || v)
-or-swap true true = refl
-or-swap true false = refl
-or-swap false true = refl
-or-swap false false = refl
 
 -- the word of a set is one of four
 pub four : (P : ℕ → Type 0) → P 0 → P 1 → P 2 → P 3 → (q : ℕ) → q < 4 → P q
@@ -84,7 +78,7 @@ with-bit words s four-words ls t lt =
     let bits = ap (λ (n : ℕ). bit n (t % 64)) read ∙ bit-or (getD words (t / 64) 0) (2 ^ (s % 64)) (t % 64) in
     let own = bit-pow (s % 64) (t % 64) in
     let test : eqb (t % 64) (s % 64) ≡ eqb t s = grind (arith, tells) in
-    bits ∙ or-swap (bit (getD words (t / 64) 0) (t % 64)) (bit (2 ^ (s % 64)) (t % 64)) ∙ ap (λ (v : Bool). v || bit (getD words (t / 64) 0) (t % 64)) (own ∙ test))
+    bits ∙ or-comm (bit (getD words (t / 64) 0) (t % 64)) (bit (2 ^ (s % 64)) (t % 64)) ∙ ap (λ (v : Bool). v || bit (getD words (t / 64) 0) (t % 64)) (own ∙ test))
     (λ other.
     let test : eqb t s ≡ false = ne-eqb t s (λ e. other (ap (λ (n : ℕ). n / 64) e)) in
     ap (λ (n : ℕ). bit n (t % 64)) (getD-set-other words (s / 64) (t / 64) _ 0 other) ∙ sym (ap (λ (v : Bool). v || bit (getD words (t / 64) 0) (t % 64)) test))

@@ -2,6 +2,7 @@ ghost use Prim.Native.Nat.{ℕ, _≤_};
 ghost use mathlib.Core.Bool.{true};
 ghost use mathlib.Core.Path.{_≡_};
 ghost use lib.ListN.{getD};
+ghost use Rattle.theory.specs.Blocks.{reload-top};
 ghost use Rattle.blocks.specs.Footprints.{nested-at, no-footprint};
 use super::footprint::Footprint;
 
@@ -15,6 +16,6 @@ pub mod reads;
 pub struct BlockMap {
     reload: u16,
     footprints: [Footprint; 32],
-    ghost small: { reload ≤ 1023 },
+    ghost small: { reload ≤ reload-top },
     ghost nested: { (k s : ℕ) → nested-at (getD footprints k no-footprint) s ≡ true },
 }

@@ -2,13 +2,13 @@
 use blocks::map::BlockMap;
 use blocks::sets::CacheSets;
 use delay::map_model::MapModel;
-use delay::map_model::ReckonedDelay;
+use delay::map_model::MapModelCharges;
 use delay::model::DelayModel;
 use delay::model::NoDelay;
-use delay::model::NoDelayModel;
+use delay::model::NoDelayCharges;
 use delay::reckoning::Reckoning;
 use delay::switch::Switch;
-use delay::switch::SwitchModel;
+use delay::switch::SwitchCharges;
 use delay::switch_cost::SwitchCost;
 use names::Priority;
 use names::refusal::Refusal;
@@ -81,8 +81,11 @@ fn print_table(rt: &LibcRuntime, map: BlockMap, cost: SwitchCost) -> io::Result<
 }
 
 fn run(rt: &LibcRuntime) -> Result<(), AnyError> {
-    let (Ok(map), Ok(cost)) = (example_map(), SwitchCost::new(1)) else {
-        return Err("the example is refused".into());
+    let Ok(map) = example_map() else {
+        return Err("the map is refused".into());
+    };
+    let Ok(cost) = SwitchCost::new(1) else {
+        return Err("the switch cost is refused".into());
     };
     print_table(rt, map, cost)?;
     Ok(())

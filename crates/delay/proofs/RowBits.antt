@@ -1,7 +1,7 @@
 -- Rows as the bits of a word.
 use Prim.Native.Nat.{ℕ, suc, _+_, _-_, _*_, _/_, _%_, _^_, _<_}
 use native.Mathlib.Omega.{arith}
-use mathlib.Core.Bool.{Bool, true, false, cond, not, _&&_, _||_}
+use mathlib.Core.Bool.{Bool, true, false, cond, not, or-false, _&&_, _||_}
 use mathlib.Core.List.{List, _∷_}
 use mathlib.Core.Logic.{_⊎_, ⊎-elim}
 use mathlib.Core.Path.{_≡_, refl, sym, ap, _∙_}
@@ -53,10 +53,6 @@ index-ok false n t e is = let never : _≡_ {A = ℕ} 0 1 = cc in absurd (omega 
 pub row-read : (n k t : ℕ) → within priorities k ≡ true → t ≡ k - 1 → eqb (bitAnd (n / 2 ^ t) 1) 1 ≡ rows-of n k
 row-read n k t inside place = bit-read n t ∙ ap (bit n) place ∙ sym (ap (λ (v : Bool). v && bit n (k - 1)) inside)
 
-or-none : (v : Bool) → (v || false) ≡ v
-or-none true = refl
-or-none false = refl
-
 module _ (test : ℕ → Bool) where
   -- row t + 1 was looked at, and passed the test
   abbrev pub seen : ℕ → ℕ → Bool
@@ -83,7 +79,7 @@ module _ (test : ℕ → Bool) where
       let own : eqb t n ≡ true = eq-eqb t n same in
       bits ∙ or-right _ _ own ∙ sym (and-from (ltb t (n + 1)) (test (t + 1)) (lt-ltb t (n + 1) (omega arith)) (rw same passed)))
       (λ other.
-      bits ∙ ap (λ (v : Bool). bit word t || v) (ne-eqb t n other) ∙ or-none (bit word t) ∙ before ∙ ap (λ (v : Bool). v && test (t + 1)) (looked n t other))
+      bits ∙ ap (λ (v : Bool). bit word t || v) (ne-eqb t n other) ∙ or-false (bit word t) ∙ before ∙ ap (λ (v : Bool). v && test (t + 1)) (looked n t other))
       (cases-eq t n)
 
   pub seen-no : (word n t : ℕ) → bit word t ≡ seen n t → test (n + 1) ≡ false → bit word t ≡ seen (n + 1) t

@@ -1,7 +1,7 @@
 -- Unions and maxima, gathered row by row.
 use Prim.Native.Nat.{ℕ, _+_, _-_, _≤_, max, pred}
 use native.Mathlib.Omega.{arith}
-use mathlib.Core.Bool.{Bool, true, false, cond, _&&_, _||_}
+use mathlib.Core.Bool.{Bool, true, false, and-true, or-comm, _&&_, _||_}
 use mathlib.Core.Path.{_≡_, refl, sym, ap, ap₂, fun-ext, _∙_}
 use lib.Dec.{leb}
 use Rattle.std.proofs.shelf.Tests.{and-left, cond-false, cond-true, le-leb, lt-leb}
@@ -10,22 +10,12 @@ use Rattle.theory.specs.Delays.{some-to}
 use Rattle.blocks.specs.Members.{all-sets}
 use Rattle.theory.proofs.Counting.{count-same, largest-next, some-beyond, some-next, some-same}
 
-or-swap : (v w : Bool) → (v || w) ≡ (w || v)
-or-swap true true = refl
-or-swap true false = refl
-or-swap false true = refl
-or-swap false false = refl
-
-and-all : (v : Bool) → (v && true) ≡ v
-and-all true = refl
-and-all false = refl
-
 module _ (test : ℕ → Bool) (x : ℕ → Sets) (s k : ℕ) (l : 1 ≤ k) where
   -- s is in the union so far
   pub union-take : (old : Bool) → test k ≡ true → old ≡ some-to (in-one test x s) (pred k) → (old || x k s) ≡ some-to (in-one test x s) (pred (k + 1))
   unfolding in-one
   union-take old passed before =
-      or-swap old (x k s) ∙ ap₂ _||_ (sym (ap (λ (v : Bool). v && x k s) passed)) before ∙ sym (some-next (in-one test x s) k l)
+      or-comm old (x k s) ∙ ap₂ _||_ (sym (ap (λ (v : Bool). v && x k s) passed)) before ∙ sym (some-next (in-one test x s) k l)
 
   pub union-pass : (old : Bool) → test k ≡ false → old ≡ some-to (in-one test x s) (pred k) → old ≡ some-to (in-one test x s) (pred (k + 1))
   unfolding in-one
@@ -67,7 +57,7 @@ meet-same x y v w left right s l = ap₂ _&&_ (left s l) (right s l)
 -- every set is among all
 pub meet-all : (x y : Sets) → SameSets y all-sets → SameSets (meet x y) x
 unfolding meet
-meet-all x y all s l = ap (λ (v : Bool). x s && v) (all s l) ∙ and-all (x s)
+meet-all x y all s l = ap (λ (v : Bool). x s && v) (all s l) ∙ and-true (x s)
 
 pub largest-same : (test : ℕ → Bool) (f g : ℕ → ℕ) → ((k : ℕ) → f k ≡ g k) → largest test f ≡ largest test g
 largest-same test f g same = ap (largest test) (fun-ext same)

@@ -104,7 +104,7 @@ impl MapModel {
     }
 }
 
-pub impl DelayModel for MapModel as ReckonedDelay {
+pub impl DelayModel for MapModel as MapModelCharges {
     ghost charge = { λ m. reloads (lost-by (m .reckoning)) (blocks-of (m .map)) };
 
     fn charge_of(&self, i: Priority, b: u8, j: Priority, column: &[u8]) -> u32 {

@@ -30,7 +30,7 @@ pub trait DelayModel {
 #[derive(Clone, Copy)]
 pub struct NoDelay;
 
-pub impl DelayModel for NoDelay as NoDelayModel {
+pub impl DelayModel for NoDelay as NoDelayCharges {
     ghost charge = { λ _ _ _ _ _. 0 };
 
     fn charge_of(&self, _i: Priority, _b: u8, _j: Priority, _column: &[u8]) -> u32 {

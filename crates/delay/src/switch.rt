@@ -14,7 +14,7 @@ pub struct Switch<M> {
     pub cost: SwitchCost,
 }
 
-pub impl<M: DelayModel> DelayModel for Switch<M> as SwitchModel {
+pub impl<M: DelayModel> DelayModel for Switch<M> as SwitchCharges {
     ghost charge = { λ s. switched (s .cost .ticks) (M·DelayModel .charge (s .below)) };
 
     fn charge_of(&self, i: Priority, b: u8, j: Priority, column: &[u8]) -> u32 {

@@ -1,6 +1,7 @@
 ghost use Prim.Native.Nat.{_<_, _≤_};
 ghost use mathlib.Core.Path.{_≡_};
 ghost use Rattle.std.specs.declared.result.Result.the-variants.{Ok, Err};
+ghost use Rattle.theory.specs.Delays.{switch-top};
 use names::refusal::Refusal;
 
 /// The most that a switch can cost, in ticks.
@@ -10,13 +11,13 @@ pub const SWITCH_TOP: u16 = 4095;
 #[derive(Clone, Copy)]
 pub struct SwitchCost {
     ticks: u16,
-    ghost small: { ticks ≤ 4095 },
+    ghost small: { ticks ≤ switch-top },
 }
 
 impl SwitchCost {
     /// Refused above 4095 ticks.
     pub fn new(ticks: u16) -> Result<SwitchCost, Refusal>
-        ensures { λ r. ⌜ elim r [ Ok w ↦ (w .ticks ≡ ticks) × (ticks ≤ 4095) | Err e ↦ (e ≡ Refusal.SwitchCostRange) × (4095 < ticks) ] ⌝ }
+        ensures { λ r. ⌜ elim r [ Ok w ↦ (w .ticks ≡ ticks) × (ticks ≤ switch-top) | Err e ↦ (e ≡ Refusal.SwitchCostRange) × (switch-top < ticks) ] ⌝ }
     {
         if ticks > SWITCH_TOP {
             return Err(Refusal::SwitchCostRange);
@@ -27,7 +28,7 @@ impl SwitchCost {
     /// The cost in ticks.
     pub fn ticks(self) -> u16
         ensures value { λ r. ⌜ r ≡ self .ticks ⌝ }
-        ensures small { λ r. ⌜ r ≤ 4095 ⌝ }
+        ensures small { λ r. ⌜ r ≤ switch-top ⌝ }
     {
         self.ticks
     }

@@ -1,12 +1,12 @@
 use blocks::map::BlockMap;
 use blocks::sets::CacheSets;
 use delay::map_model::MapModel;
-use delay::map_model::ReckonedDelay;
+use delay::map_model::MapModelCharges;
 use delay::model::DelayModel;
 use delay::reckoning::Reckoning;
 use delay::rows::affected_rows;
 use delay::switch::Switch;
-use delay::switch::SwitchModel;
+use delay::switch::SwitchCharges;
 use delay::switch_cost::SwitchCost;
 use names::Priority;
 use names::refusal::Refusal;

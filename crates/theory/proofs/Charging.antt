@@ -9,7 +9,7 @@ use mathlib.Core.Path.{_≡_, sym, ap, _∙_}
 use lib.Dec.{leb, ltb, eqb}
 use Rattle.std.proofs.shelf.Bits.{mul-le}
 use Rattle.std.proofs.shelf.Tests.{and-parts, and-from, cond-true, cond-false, or-cases, leb-true, eqb-true, ltb-true, lt-ltb}
-use Rattle.theory.specs.Blocks.{Blocks, Reckoned, Sets, cache-sets, size, count-below, meet, in-one, union, counted, largest, largest-to, useful-size, met-size, lost-e, lost-u, lost-v, lost-x, reloads}
+use Rattle.theory.specs.Blocks.{Blocks, Reckoned, Sets, cache-sets, reload-top, size, count-below, meet, in-one, union, counted, largest, largest-to, useful-size, met-size, lost-e, lost-u, lost-v, lost-x, reloads}
 use Rattle.theory.specs.Columns.{entry}
 use Rattle.theory.specs.Delays.{Charge, too-much, asked, affected, some-row, NoGreater, Alike, Lawful, switched}
 use Rattle.theory.specs.Figures.{priorities, Within}
@@ -107,7 +107,7 @@ lost-same lost keeps m j p q same =
     omega arith
 
 -- a map with a reload time in range
-pub reloads-lawful : (lost : Reckoned) → Keeps lost → (m : Blocks) → m .reload ≤ 1023 → Lawful (reloads lost m)
+pub reloads-lawful : (lost : Reckoned) → Keeps lost → (m : Blocks) → m .reload ≤ reload-top → Lawful (reloads lost m)
 reloads-lawful lost keeps m small =
     record {
       monotone = λ i b j g h le.
@@ -115,7 +115,7 @@ reloads-lawful lost keeps m small =
           elim (asked i b j) as (λ v. cond v (m .reload * lost m j (affected i b j g)) 0 ≤ cond v (m .reload * lost m j (affected i b j h)) 0)
           [ true ↦ more | false ↦ omega arith ];
       bounded = λ i b j h.
-          let few = mul-le (m .reload) (lost m j (affected i b j h)) 1023 cache-sets small (keeps .few m j (affected i b j h)) in
+          let few = mul-le (m .reload) (lost m j (affected i b j h)) reload-top cache-sets small (keeps .few m j (affected i b j h)) in
           elim (asked i b j) as (λ v. cond v (m .reload * lost m j (affected i b j h)) 0 ≤ too-much)
           [ true ↦ omega arith | false ↦ omega arith ];
     }

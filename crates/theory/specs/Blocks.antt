@@ -66,7 +66,11 @@ largest-to f (suc n) = max (largest-to f n) (f (suc n))
 abbrev pub largest : (ℕ → Bool) → (ℕ → ℕ) → ℕ
 largest test f = largest-to (counted test f) priorities
 
--- a block map: the ticks that one block takes to reload, and for each priority the cache sets that its row
+-- the most ticks that a block takes to load again
+abbrev pub reload-top : ℕ
+reload-top = 1023
+
+-- a block map: the ticks that a block takes to load again, and for each priority the cache sets that its row
 -- loads blocks into, and those whose blocks it uses again
 pub record Blocks : Type 0 where
   pub reload : ℕ

@@ -58,6 +58,10 @@ pub record Lawful (c : Charge) : Type 0 where
   pub monotone : (i b j : ℕ) (g h : List ℕ) → NoGreater i b g h → c i b j g ≤ c i b j h
   pub bounded : (i b j : ℕ) (h : List ℕ) → c i b j h ≤ too-much
 
+-- the most ticks that a switch costs
+abbrev pub switch-top : ℕ
+switch-top = 4095
+
 -- the charge of the model below and the cost w of a switch when some row is affected, and at most too much
 abbrev pub switched : ℕ → Charge → Charge
 switched w c i b j h =

@@ -1,7 +1,7 @@
 ghost use Prim.Native.Nat.{_<_, _≤_};
 ghost use mathlib.Core.Path.{_≡_};
 ghost use Rattle.std.specs.declared.result.Result.the-variants.{Ok, Err};
-ghost use Rattle.theory.specs.Blocks.{FootprintAnswer, SameBlocks, fresh-blocks, left-by, with-footprint};
+ghost use Rattle.theory.specs.Blocks.{FootprintAnswer, SameBlocks, fresh-blocks, left-by, reload-top, with-footprint};
 ghost use Rattle.names.specs.Refusals.{refused};
 ghost use Rattle.blocks.specs.Members.{has};
 ghost use Rattle.blocks.specs.Views.{blocks-of};
@@ -17,7 +17,7 @@ pub const RELOAD_TOP: u16 = 1023;
 impl BlockMap {
     /// A fresh map, in which no row has a block.
     pub fn new(reload: u16) -> Result<BlockMap, Refusal>
-        ensures { λ r. ⌜ elim r [ Ok m ↦ (reload ≤ 1023) × SameBlocks (blocks-of m) (fresh-blocks reload) | Err e ↦ (1023 < reload) × (e ≡ Refusal.ReloadRange) ] ⌝ }
+        ensures { λ r. ⌜ elim r [ Ok m ↦ (reload ≤ reload-top) × SameBlocks (blocks-of m) (fresh-blocks reload) | Err e ↦ (reload-top < reload) × (e ≡ Refusal.ReloadRange) ] ⌝ }
     {
         if reload > RELOAD_TOP {
             return Err(Refusal::ReloadRange);

@@ -1,6 +1,6 @@
 ghost use Prim.Native.Nat.{_≤_};
 ghost use mathlib.Core.Path.{_≡_};
-ghost use Rattle.theory.specs.Blocks.{Inside, SameSets, cache-sets};
+ghost use Rattle.theory.specs.Blocks.{Inside, SameSets, cache-sets, reload-top};
 ghost use Rattle.blocks.specs.Members.{has};
 ghost use Rattle.blocks.specs.Views.{blocks-of};
 use super::super::sets::CacheSets;
@@ -11,7 +11,7 @@ impl BlockMap {
     /// The ticks that a block takes to load again.
     pub fn reload(&self) -> u16
         ensures value { λ r. ⌜ r ≡ blocks-of (now (self .entry)) .reload ⌝ }
-        ensures small { λ r. ⌜ r ≤ 1023 ⌝ }
+        ensures small { λ r. ⌜ r ≤ reload-top ⌝ }
     {
         self.reload
     }

@@ -5,7 +5,7 @@ use Rattle.theory.specs.Delays.{affected, too-much}
 use Rattle.theory.proofs.Charging.{switched-none, switched-some}
 use Rattle.theory.proofs.Counting.{some-same}
 use Rattle.delay.specs.RowSets.{in-rows}
-use Rattle.delay.proofs.switch.SwitchModel.charge_of.Needs as need
+use Rattle.delay.proofs.switch.SwitchCharges.charge_of.Needs as need
 
 pub returns-then-is-empty : need.returns-then-is-empty
 returns-then-is-empty g c =

@@ -3,21 +3,21 @@ use native.Mathlib.Omega.{arith}
 use mathlib.Core.Path.{sym, ap₂, _∙_}
 use Rattle.std.proofs.shelf.Bits.{mul-le}
 use Rattle.std.proofs.shelf.Tests.{cond-true}
-use Rattle.theory.specs.Blocks.{cache-sets}
+use Rattle.theory.specs.Blocks.{cache-sets, reload-top}
 use Rattle.theory.specs.Delays.{affected, asked}
 use Rattle.theory.proofs.Charging.{lost-same}
 use Rattle.blocks.specs.Views.{blocks-of}
 use Rattle.delay.specs.Reckonings.{lost-by}
 use Rattle.delay.specs.RowSets.{in-rows}
 use Rattle.delay.proofs.Keeping.{keeps}
-use Rattle.delay.proofs.map_model.ReckonedDelay.charge_of.Needs as need
+use Rattle.delay.proofs.map_model.MapModelCharges.charge_of.Needs as need
 
 pub mul-result : need.mul-result
 mul-result c =
     let m = c .args .self .now in
     let few = keeps (m .reckoning) .few (blocks-of (m .map)) (c .args .j .0) (in-rows (c .affected-rows-rows .result)) in
     let lost-few : c .lost .result ≤ cache-sets = omega (arith, few, c .lost .ensures) in
-    omega (arith, mul-le (c .reload .result) (c .lost .result) 1023 cache-sets (c .reload .ensures .small) lost-few)
+    omega (arith, mul-le (c .reload .result) (c .lost .result) reload-top cache-sets (c .reload .ensures .small) lost-few)
 
 pub returns : need.returns
 returns c =

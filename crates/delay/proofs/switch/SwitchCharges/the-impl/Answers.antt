@@ -1,5 +1,5 @@
 use Rattle.theory.proofs.Charging.{switched-lawful}
-use Rattle.delay.proofs.switch.SwitchModel.the-impl.Needs as need
+use Rattle.delay.proofs.switch.SwitchCharges.the-impl.Needs as need
 
 pub monotone-law : need.monotone-law
 monotone-law g s =
