@@ -1,4 +1,4 @@
 // The cache blocks of the rows, and what it costs to load one again.
-pub mod footprint;
+mod footprint;
 pub mod map;
 pub mod sets;

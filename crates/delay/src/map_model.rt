@@ -1,6 +1,9 @@
-ghost use Prim.Native.Nat.{_≤_};
+ghost use Prim.Native.Nat.{ℕ, _≤_};
+ghost use mathlib.Core.Bool.{false};
+ghost use mathlib.Core.List.{List};
 ghost use mathlib.Core.Path.{_≡_};
-ghost use Rattle.theory.specs.Blocks.{SameSets, largest, lost-e, lost-u, lost-v, lost-x, reloads, union, up-to};
+ghost use Rattle.theory.specs.Delays.{affected, some-row};
+ghost use Rattle.theory.specs.Blocks.{SameSets, Sharper, largest, lost-e, lost-u, lost-v, lost-x, reloads, union, up-to};
 ghost use Rattle.blocks.specs.Members.{has};
 ghost use Rattle.blocks.specs.Views.{blocks-of};
 ghost use Rattle.delay.specs.Reckonings.{among-size, lost-by};
@@ -66,9 +69,10 @@ fn evicting_lost(map: &BlockMap, j: Priority, rows: RowSet) -> u32
     ensures { λ r. ⌜ r ≡ lost-e (blocks-of (now (map .entry))) (j .0) (in-rows rows) ⌝ }
 {
     if rows.is_empty() {
-        return 0;
+        0
+    } else {
+        map.evicting(j).size()
     }
-    map.evicting(j).size()
 }
 
 fn largest_useful_lost(map: &BlockMap, j: Priority, rows: RowSet) -> u32
@@ -115,3 +119,13 @@ pub impl DelayModel for MapModel as MapModelCharges {
         self.map.reload() as u32 * self.lost(j, rows)
     }
 }
+
+/// Where no row is affected, nothing is charged.
+pub fn unaffected(m: &MapModel)
+    ensures { λ _. ⌜ ((i b j : ℕ) (h : List ℕ) → some-row (affected i b j h) ≡ false → reloads (lost-by (now (m .entry) .reckoning)) (blocks-of (now (m .entry) .map)) i b j h ≡ 0) ⌝ }
+{}
+
+/// V never charges more than E, and X never more than U.
+pub fn sharper(map: &BlockMap)
+    ensures { λ _. ⌜ Sharper (blocks-of (now (map .entry))) ⌝ }
+{}

@@ -20,8 +20,8 @@ pub trait DelayModel {
 
     law bounded: { (m : Self) (i b j : ℕ) (h : List ℕ) → charge m i b j h ≤ too-much };
 
-    /// The charge for (i, b, j) in a column, 0 for b where there is no blocker. A question out of range has the charge
-    /// 0, and an entry that the column does not have counts as 0.
+    /// The charge for (i, b, j) in a column; b is 0 where there is no blocker. It is never refused: every model here
+    /// answers 0 where i or j is outside 1 to 32 or b is above 32, and an entry that the column does not have is a 0.
     fn charge_of(&self, i: Priority, b: u8, j: Priority, column: &[u8]) -> u32
         ensures { λ r. ⌜ r ≡ charge (now (self .entry)) (i .0) b (j .0) (now (column .entry)) ⌝ };
 }
@@ -39,7 +39,7 @@ pub impl DelayModel for NoDelay as NoDelayCharges {
 }
 
 /// Of every delay model: columns with the same zeros and with equal entries at 1 to i and at b have equal charges.
-/// So nothing else of a column counts, and a missing entry is a 0.
+/// So of a column nothing counts but these entries and where it is 0, and a missing entry is a 0.
 pub fn alike<M: DelayModel>(m: &M)
     ensures { λ _. ⌜ ((i b j : ℕ) (g h : List ℕ) → Alike i b g h → charge (now (m .entry)) i b j g ≡ charge (now (m .entry)) i b j h) ⌝ }
 {}

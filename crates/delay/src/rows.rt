@@ -62,7 +62,7 @@ pub fn affected_rows(i: Priority, b: u8, j: Priority, column: &[u8]) -> RowSet
     RowSet(rows)
 }
 
-/// Whether i and j are priorities, and b is one or 0. Any other question has the charge 0.
+/// Whether i and j are priorities, and b is one or 0. A model answers 0 to any other question.
 pub fn in_range(i: Priority, b: u8, j: Priority) -> bool
     ensures { λ r. ⌜ r ≡ asked (i .0) b (j .0) ⌝ }
 {

@@ -1,19 +1,19 @@
 -- The two laws, for the charges that are reckoned from blocks and for the switch over any charge.
 use Prim.Native.Nat.{ℕ, _+_, _*_, _≤_, min}
-use native.Mathlib.Nat.{mul-le-mul-left}
+use native.Mathlib.Nat.{mul-le-mul-left, mul-zero}
 use native.Mathlib.Omega.{arith}
 use mathlib.Core.Bool.{Bool, true, false, cond, _&&_, _||_}
 use mathlib.Core.List.{List}
 use mathlib.Core.Logic.{⊎-elim}
-use mathlib.Core.Path.{_≡_, sym, ap, _∙_}
+use mathlib.Core.Path.{_≡_, refl, sym, ap, _∙_}
 use lib.Dec.{leb, ltb, eqb}
 use Rattle.std.proofs.shelf.Bits.{mul-le}
-use Rattle.std.proofs.shelf.Tests.{and-parts, and-from, cond-true, cond-false, or-cases, leb-true, eqb-true, ltb-true, lt-ltb}
-use Rattle.theory.specs.Blocks.{Blocks, Reckoned, Sets, cache-sets, reload-top, size, count-below, meet, in-one, union, counted, largest, largest-to, useful-size, met-size, lost-e, lost-u, lost-v, lost-x, reloads}
+use Rattle.std.proofs.shelf.Tests.{and-parts, and-from, and-left, cases-bool, cond-true, cond-false, or-cases, leb-true, eqb-true, ltb-true, lt-ltb}
+use Rattle.theory.specs.Blocks.{Blocks, Reckoned, Sets, cache-sets, reload-top, size, count-below, meet, in-one, union, counted, largest, largest-to, useful-size, met-size, lost-e, lost-u, lost-v, lost-x, reloads, up-to, Sharper}
 use Rattle.theory.specs.Columns.{entry}
 use Rattle.theory.specs.Delays.{Charge, too-much, asked, affected, some-row, NoGreater, Alike, Lawful, switched}
 use Rattle.theory.specs.Figures.{priorities, Within}
-use Rattle.theory.proofs.Counting.{cond-mono, some-mono, largest-le, largest-mono, count-le, count-mono}
+use Rattle.theory.proofs.Counting.{cond-mono, none-some, some-mono, some-none, largest-le, largest-mono, count-le, count-mono, count-none}
 
 module _ (i b j : ℕ) (g h : List ℕ) (le : NoGreater i b g h) where
   entry-mono : (k : ℕ) → 1 ≤ k → (leb k i || eqb k b) ≡ true → entry g k ≤ entry h k
@@ -38,10 +38,12 @@ module _ (i b j : ℕ) (g h : List ℕ) (le : NoGreater i b g h) where
 abbrev pub Wider : (ℕ → Bool) → (ℕ → Bool) → Type 0
 Wider p q = (k : ℕ) → Within priorities k → p k ≡ true → q k ≡ true
 
--- What a reckoning owes for the laws: more affected rows lose no fewer blocks, and no more than the cache has.
+-- What a reckoning owes: more affected rows lose no fewer blocks, none loses more than the cache has, and where no
+-- row is affected no block is lost.
 pub record Keeps (lost : Reckoned) : Type 0 where
   pub more : (m : Blocks) (j : ℕ) (p q : ℕ → Bool) → Wider p q → lost m j p ≤ lost m j q
   pub few : (m : Blocks) (j : ℕ) (p : ℕ → Bool) → lost m j p ≤ cache-sets
+  pub none : (m : Blocks) (j : ℕ) (p : ℕ → Bool) → some-row p ≡ false → lost m j p ≡ 0
 
 module _ (p q : ℕ → Bool) (wider : Wider p q) where
   wider-some : some-row p ≡ true → some-row q ≡ true
@@ -64,14 +66,26 @@ size-le x = count-le x cache-sets
 largest-few : (p : ℕ → Bool) (f : ℕ → ℕ) → ((k : ℕ) → f k ≤ cache-sets) → largest p f ≤ cache-sets
 unfolding counted
 largest-few p f each =
-    largest-le (counted p f) cache-sets
-    (λ k. elim (p k) as (λ v. cond v (f k) 0 ≤ cache-sets) [ true ↦ each k | false ↦ omega arith ]) priorities
+    largest-le (counted p f) cache-sets priorities
+    (λ k l u. elim (p k) as (λ v. cond v (f k) 0 ≤ cache-sets) [ true ↦ each k | false ↦ omega arith ])
+
+largest-none : (p : ℕ → Bool) (f : ℕ → ℕ) → some-row p ≡ false → largest p f ≡ 0
+unfolding counted
+largest-none p f none =
+    let zeros = largest-le (counted p f) 0 priorities (λ k l u. let e = cond-false (p k) (f k) 0 (none-some p priorities none k l u) in omega arith) in
+    omega arith
+
+union-none : (p : ℕ → Bool) (x : ℕ → Sets) (s : ℕ) → some-row p ≡ false → union p x s ≡ false
+unfolding union in-one
+union-none p x s none =
+    some-none (in-one p x s) priorities (λ k l u. and-left (p k) (x k s) (none-some p priorities none k l u))
 
 pub keeps-e : Keeps lost-e
 keeps-e =
     record {
       more = λ m j p q wider. cond-mono (some-row p) (some-row q) (size (m .evicting j)) (wider-some p q wider);
       few = λ m j p. elim (some-row p) as (λ v. cond v (size (m .evicting j)) 0 ≤ cache-sets) [ true ↦ size-le (m .evicting j) | false ↦ omega arith ];
+      none = λ m j p. cond-false (some-row p) (size (m .evicting j)) 0;
     }
 
 pub keeps-u : Keeps lost-u
@@ -80,6 +94,7 @@ keeps-u =
     record {
       more = λ m j p q wider. wider-largest p q wider (useful-size m);
       few = λ m j p. largest-few p (useful-size m) (λ k. size-le (m .useful k));
+      none = λ m j p. largest-none p (useful-size m);
     }
 
 pub keeps-v : Keeps lost-v
@@ -89,6 +104,7 @@ keeps-v =
       more = λ m j p q wider. count-mono (meet (union p (m .useful)) (m .evicting j)) (meet (union q (m .useful)) (m .evicting j)) cache-sets
           (λ s e. let parts = and-parts _ _ e in and-from _ _ (wider-union p q wider (m .useful) s (parts .0)) (parts .1));
       few = λ m j p. size-le (meet (union p (m .useful)) (m .evicting j));
+      none = λ m j p e. count-none (meet (union p (m .useful)) (m .evicting j)) cache-sets (λ s. and-left _ _ (union-none p (m .useful) s e));
     }
 
 pub keeps-x : Keeps lost-x
@@ -97,6 +113,7 @@ keeps-x =
     record {
       more = λ m j p q wider. wider-largest p q wider (met-size m j);
       few = λ m j p. largest-few p (met-size m j) (λ k. size-le _);
+      none = λ m j p. largest-none p (met-size m j);
     }
 
 -- a reckoning looks at no number but the priorities
@@ -119,6 +136,42 @@ reloads-lawful lost keeps m small =
           elim (asked i b j) as (λ v. cond v (m .reload * lost m j (affected i b j h)) 0 ≤ too-much)
           [ true ↦ omega arith | false ↦ omega arith ];
     }
+
+-- where no row is affected, nothing is charged
+pub reloads-none : (lost : Reckoned) → Keeps lost → (m : Blocks) (i b j : ℕ) (h : List ℕ) → some-row (affected i b j h) ≡ false → reloads lost m i b j h ≡ 0
+reloads-none lost keeps m i b j h none =
+    let zeros : m .reload * lost m j (affected i b j h) ≡ 0 = rw (keeps .none m j (affected i b j h) none) (mul-zero (m .reload)) in
+    elim (asked i b j) as (λ v. cond v (m .reload * lost m j (affected i b j h)) 0 ≡ 0) [ true ↦ zeros | false ↦ refl ]
+
+-- a reckoning that never counts more never charges more
+reloads-less : (few many : Reckoned) (m : Blocks) (i b j : ℕ) (h : List ℕ) → few m j (affected i b j h) ≤ many m j (affected i b j h) → reloads few m i b j h ≤ reloads many m i b j h
+reloads-less few many m i b j h less =
+    let more = mul-le-mul-left (m .reload) less in
+    elim (asked i b j) as (λ v. cond v (m .reload * few m j (affected i b j h)) 0 ≤ cond v (m .reload * many m j (affected i b j h)) 0)
+    [ true ↦ more | false ↦ omega arith ]
+
+v-below-e : (m : Blocks) (j : ℕ) (p : ℕ → Bool) → lost-v m j p ≤ lost-e m j p
+unfolding meet
+v-below-e m j p =
+    ⊎-elim
+    (λ some.
+    let own = cond-true (some-row p) (size (m .evicting j)) 0 some in
+    let part : lost-v m j p ≤ size (m .evicting j) = count-mono (meet (union p (m .useful)) (m .evicting j)) (m .evicting j) cache-sets (λ s e. and-parts _ _ e .1) in
+    omega arith)
+    (λ none. let zeros = keeps-v .none m j p none in omega arith)
+    (cases-bool (some-row p))
+
+x-below-u : (m : Blocks) (j : ℕ) (p : ℕ → Bool) → lost-x m j p ≤ lost-u m j p
+unfolding counted met-size useful-size meet
+x-below-u m j p =
+    largest-mono (counted p (met-size m j)) (counted p (useful-size m)) priorities
+    (λ k l u.
+    let part = count-mono (meet (m .useful k) (union (up-to j) (m .evicting))) (m .useful k) cache-sets (λ s e. and-parts _ _ e .0) in
+    elim (p k) as (λ v. cond v (size (meet (m .useful k) (union (up-to j) (m .evicting)))) 0 ≤ cond v (size (m .useful k)) 0) [ true ↦ part | false ↦ omega arith ])
+
+pub sharper : (m : Blocks) → Sharper m
+sharper m i b j h =
+    (reloads-less lost-v lost-e m i b j h (v-below-e m j (affected i b j h)), reloads-less lost-x lost-u m i b j h (x-below-u m j (affected i b j h)))
 
 pub switched-lawful : (w : ℕ) (c : Charge) → Lawful c → Lawful (switched w c)
 switched-lawful w c laws =

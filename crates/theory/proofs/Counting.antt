@@ -6,7 +6,7 @@ use native.Mathlib.Omega.{arith}
 use mathlib.Core.Bool.{Bool, true, false, cond, _||_}
 use mathlib.Core.Logic.{⊎-elim}
 use mathlib.Core.Path.{_≡_, refl, sym, ap, ap₂, _∙_}
-use Rattle.std.proofs.shelf.Tests.{true≢false, or-cases, or-left, or-right, or-from, cases-lt}
+use Rattle.std.proofs.shelf.Tests.{both-ways, cases-bool, true≢false, or-cases, or-left, or-right, or-from, cases-lt}
 use Rattle.theory.specs.Blocks.{Sets, count-below, largest-to}
 use Rattle.theory.specs.Delays.{some-to}
 
@@ -49,6 +49,10 @@ module _ (test : ℕ → Bool) where
       (λ top. or-left (test (suc n)) _ (let same : k ≡ suc n = omega arith in rw same at e))
       (cases-lt k (suc n))
 
+  pub none-some : (n : ℕ) → some-to test n ≡ false → (k : ℕ) → 1 ≤ k → k ≤ n → test k ≡ false
+  none-some n none k l u =
+      ⊎-elim (λ e. absurd (both-ways _ none (some-one n k l u e))) (λ e. e) (cases-bool (test k))
+
 pub some-mono : (p q : ℕ → Bool) (n : ℕ) → ((k : ℕ) → 1 ≤ k → k ≤ n → p k ≡ true → q k ≡ true) → some-to p n ≡ true → some-to q n ≡ true
 unfolding some-to
 some-mono p q zero wider e = e
@@ -74,10 +78,11 @@ module _ (f : ℕ → ℕ) where
   largest-next zero l = let never : ⊥ = omega arith in absurd never
   largest-next (suc n) l = ap (λ (k : ℕ). largest-to f (pred k)) (add-one (suc n))
 
-  pub largest-le : (top : ℕ) → ((k : ℕ) → f k ≤ top) → (n : ℕ) → largest-to f n ≤ top
+  pub largest-le : (top n : ℕ) → ((k : ℕ) → 1 ≤ k → k ≤ n → f k ≤ top) → largest-to f n ≤ top
   unfolding largest-to
-  largest-le top each zero = omega arith
-  largest-le top each (suc n) = omega (arith, each (suc n), largest-le top each n)
+  largest-le top zero each = omega arith
+  largest-le top (suc n) each =
+      omega (arith, each (suc n) (omega arith) (omega arith), largest-le top n (λ k l u. each k l (omega arith)))
 
 pub largest-mono : (f g : ℕ → ℕ) (n : ℕ) → ((k : ℕ) → 1 ≤ k → k ≤ n → f k ≤ g k) → largest-to f n ≤ largest-to g n
 unfolding largest-to
@@ -92,6 +97,11 @@ module _ (x : Sets) where
   count-le (suc n) =
       elim (x n) as (λ v. count-below x n + cond v 1 0 ≤ suc n)
       [ true ↦ omega (arith, count-le n) | false ↦ omega (arith, count-le n) ]
+
+  pub count-none : (n : ℕ) → ((s : ℕ) → x s ≡ false) → count-below x n ≡ 0
+  unfolding count-below
+  count-none zero none = refl
+  count-none (suc n) none = ap₂ (λ (m : ℕ) (v : Bool). m + cond v 1 0) (count-none n none) (none n)
 
   -- the first apart
   pub count-first : (n : ℕ) → count-below x (suc n) ≡ cond (x 0) 1 0 + count-below (λ k. x (suc k)) n

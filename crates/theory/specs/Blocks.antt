@@ -1,6 +1,7 @@
 -- The cache blocks of the rows, and the charges that are reckoned from them.
-use Prim.Native.Nat.{ℕ, zero, suc, _+_, _*_, _<_, max}
+use Prim.Native.Nat.{ℕ, zero, suc, _+_, _*_, _≤_, _<_, max}
 use mathlib.Core.Bool.{Bool, true, false, cond, _&&_, _||_}
+use mathlib.Core.List.{List}
 use mathlib.Core.Logic.{_⊎_}
 use mathlib.Core.Path.{_≡_}
 use lib.Dec.{leb, eqb}
@@ -141,3 +142,8 @@ lost-x m j rows = largest rows (met-size m j)
 -- the charge of a reckoning: the reload time for each lost block
 abbrev pub reloads : Reckoned → Blocks → Charge
 reloads lost m i b j h = cond (asked i b j) (m .reload * lost m j (affected i b j h)) 0
+
+-- V never charges more than E, and X never more than U
+abbrev pub Sharper : Blocks → Type 0
+Sharper m =
+    (i b j : ℕ) (h : List ℕ) → (reloads lost-v m i b j h ≤ reloads lost-e m i b j h) × (reloads lost-x m i b j h ≤ reloads lost-u m i b j h)
