@@ -1,5 +1,5 @@
 -- The bits of words: of `&`, `|`, `!` and `<<`, how many are set, and which is the lowest.
-use Prim.Native.Nat.{ℕ, zero, suc, _+_, _-_, _*_, _/_, _%_, _^_, _≤_, _<_, min, max}
+use Prim.Native.Nat.{ℕ, zero, suc, _-_, _/_, _%_, _^_, _<_, min, max}
 use native.Mathlib.Nat.{div-one, pow-suc}
 use native.Mathlib.Numerals.{add-one, one-add}
 use native.Mathlib.Omega.{arith}
@@ -12,7 +12,7 @@ use lib.Dec.{eqb}
 use Rattle.std.proofs.shelf.Bits.{shr-le, shr-shr, shr-below}
 use Rattle.std.proofs.shelf.Tests.{cases-lt}
 use Rattle.std.proofs.shelf.Ways.{tells}
-use Rattle.theory.specs.Blocks.{count-below}
+use Rattle.theory.specs.Sets.{count-below}
 use Rattle.theory.proofs.Counting.{count-first, count-same}
 use Rattle.blocks.specs.Members.{bit}
 

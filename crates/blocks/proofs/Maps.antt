@@ -6,7 +6,7 @@ use mathlib.Core.Path.{_≡_, refl}
 use lib.Dec.{ltb}
 use lib.ListN.{getD, replicate, set}
 use Rattle.std.proofs.shelf.Tests.{both-ways, ltb-true}
-use Rattle.theory.specs.Blocks.{Inside, SameSets, cache-sets}
+use Rattle.theory.specs.Sets.{Inside, SameSets, cache-sets}
 use Rattle.blocks.specs.declared.footprint.Footprint.{Footprint}
 use Rattle.blocks.specs.Footprints.{nested-at, no-footprint}
 use Rattle.blocks.specs.Members.{has, in-words, no-sets}

@@ -15,7 +15,7 @@ use Rattle.std.proofs.shelf.Lists.{take-more}
 use Rattle.std.proofs.shelf.Tests.{and-parts, cases-lt, cases-eq, ne-eqb, not-true}
 use Rattle.std.proofs.shelf.Ways.{tells}
 use Rattle.std.specs.declared.option.Option.the-variants.{Some}
-use Rattle.theory.specs.Blocks.{Sets, SameSets, Inside, FirstOutside, cache-sets, count-below, size, join, meet}
+use Rattle.theory.specs.Sets.{Sets, SameSets, Inside, FirstOutside, cache-sets, count-below, size, join, meet}
 use Rattle.theory.proofs.Counting.{count-part, count-same}
 use Rattle.blocks.specs.Members.{all-sets, bit, in-words, listed, no-sets, plus}
 use Rattle.blocks.proofs.Bitwise.{bit-and, bit-or, bit-not, bit-pow, bit-zero, lowest, ones-count}

@@ -3,7 +3,7 @@ use Prim.Native.Nat.{ℕ}
 use mathlib.Core.Bool.{Bool, true, cond, _&&_}
 use mathlib.Core.List.{[]}
 use lib.Dec.{ltb}
-use Rattle.theory.specs.Blocks.{cache-sets}
+use Rattle.theory.specs.Sets.{cache-sets}
 use Rattle.blocks.specs.declared.footprint.Footprint.{Footprint}
 use Rattle.blocks.specs.Members.{has}
 

@@ -4,7 +4,7 @@ use mathlib.Core.Bool.{Bool, true, false, _||_}
 use mathlib.Core.List.{List, [], _∷_}
 use lib.Dec.{eqb}
 use lib.ListN.{getD}
-use Rattle.theory.specs.Blocks.{Sets}
+use Rattle.theory.specs.Sets.{Sets}
 use Rattle.blocks.specs.declared.sets.CacheSets.{CacheSets}
 
 -- bit t of n

@@ -1,5 +1,5 @@
 ghost use mathlib.Core.Path.{_≡_};
-ghost use Rattle.theory.specs.Blocks.{FirstOutside, SameSets, join, meet, size};
+ghost use Rattle.theory.specs.Sets.{FirstOutside, SameSets, join, meet, size};
 ghost use Rattle.blocks.specs.Members.{all-sets, has, listed, no-sets, plus};
 
 /// Some of the 256 sets of the cache.

@@ -2,10 +2,11 @@
 use Prim.Native.Nat.{ℕ, _+_, _-_, _≤_, max, pred}
 use native.Mathlib.Omega.{arith}
 use mathlib.Core.Bool.{Bool, true, false, and-true, or-comm, _&&_, _||_}
-use mathlib.Core.Path.{_≡_, refl, sym, ap, ap₂, fun-ext, _∙_}
+use mathlib.Core.Path.{_≡_, sym, ap, ap₂, fun-ext, _∙_}
 use lib.Dec.{leb}
 use Rattle.std.proofs.shelf.Tests.{and-left, cond-false, cond-true, le-leb, lt-leb}
-use Rattle.theory.specs.Blocks.{Sets, SameSets, cache-sets, size, counted, in-one, largest, largest-to, meet, union, up-to}
+use Rattle.theory.specs.Sets.{Sets, SameSets, cache-sets, size, counted, in-one, largest, largest-to, meet, union}
+use Rattle.theory.specs.Reckonings.{up-to}
 use Rattle.theory.specs.Delays.{some-to}
 use Rattle.blocks.specs.Members.{all-sets}
 use Rattle.theory.proofs.Counting.{count-same, largest-next, some-beyond, some-next, some-same}

@@ -1,6 +1,8 @@
 -- Which blocks each reckoning counts.
 use Prim.Native.Nat.{ℕ}
-use Rattle.theory.specs.Blocks.{Blocks, Reckoned, Sets, meet, size, lost-e, lost-u, lost-v, lost-x}
+use Rattle.theory.specs.Sets.{Sets, meet, size}
+use Rattle.theory.specs.Blocks.{Blocks}
+use Rattle.theory.specs.Reckonings.{Reckoned, lost-e, lost-u, lost-v, lost-x}
 use Rattle.delay.specs.declared.reckoning.Reckoning.{Reckoning}
 use Rattle.delay.specs.declared.reckoning.Reckoning.the-variants.{Evicting, LargestUseful, UnionMet, LargestMet}
 

@@ -1,7 +1,7 @@
 ghost use Prim.Native.Nat.{ℕ, _≤_};
 ghost use mathlib.Core.List.{List};
 ghost use mathlib.Core.Path.{_≡_};
-ghost use Rattle.theory.specs.Delays.{Alike, Lawful, NoGreater, too-much};
+ghost use Rattle.theory.specs.Delays.{Alike, NoGreater, too-much};
 use names::Priority;
 
 /// The greatest charge, which means "too much".

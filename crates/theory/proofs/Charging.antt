@@ -2,14 +2,16 @@
 use Prim.Native.Nat.{ℕ, _+_, _*_, _≤_, min}
 use native.Mathlib.Nat.{mul-le-mul-left, mul-zero}
 use native.Mathlib.Omega.{arith}
-use mathlib.Core.Bool.{Bool, true, false, cond, _&&_, _||_}
+use mathlib.Core.Bool.{Bool, true, false, cond, _||_}
 use mathlib.Core.List.{List}
 use mathlib.Core.Logic.{⊎-elim}
 use mathlib.Core.Path.{_≡_, refl, sym, ap, _∙_}
-use lib.Dec.{leb, ltb, eqb}
+use lib.Dec.{leb, eqb}
 use Rattle.std.proofs.shelf.Bits.{mul-le}
 use Rattle.std.proofs.shelf.Tests.{and-parts, and-from, and-left, cases-bool, cond-true, cond-false, or-cases, leb-true, eqb-true, ltb-true, lt-ltb}
-use Rattle.theory.specs.Blocks.{Blocks, Reckoned, Sets, cache-sets, reload-top, size, count-below, meet, in-one, union, counted, largest, largest-to, useful-size, met-size, lost-e, lost-u, lost-v, lost-x, reloads, up-to, Sharper}
+use Rattle.theory.specs.Sets.{Sets, cache-sets, size, meet, in-one, union, counted, largest}
+use Rattle.theory.specs.Blocks.{Blocks, reload-top}
+use Rattle.theory.specs.Reckonings.{Reckoned, useful-size, met-size, lost-e, lost-u, lost-v, lost-x, reloads, up-to, Sharper}
 use Rattle.theory.specs.Columns.{entry}
 use Rattle.theory.specs.Delays.{Charge, too-much, asked, affected, some-row, NoGreater, Alike, Lawful, switched}
 use Rattle.theory.specs.Figures.{priorities, Within}
@@ -156,7 +158,7 @@ v-below-e m j p =
     ⊎-elim
     (λ some.
     let own = cond-true (some-row p) (size (m .evicting j)) 0 some in
-    let part : lost-v m j p ≤ size (m .evicting j) = count-mono (meet (union p (m .useful)) (m .evicting j)) (m .evicting j) cache-sets (λ s e. and-parts _ _ e .1) in
+    let part : lost-v m j p ≤ size (m .evicting j) = count-mono (meet (union p (m .useful)) (m .evicting j)) (m .evicting j) cache-sets (λ s e. and-parts (union p (m .useful) s) (m .evicting j s) e .1) in
     omega arith)
     (λ none. let zeros = keeps-v .none m j p none in omega arith)
     (cases-bool (some-row p))

@@ -7,7 +7,7 @@ use mathlib.Core.Bool.{Bool, true, false, cond, _||_}
 use mathlib.Core.Logic.{⊎-elim}
 use mathlib.Core.Path.{_≡_, refl, sym, ap, ap₂, _∙_}
 use Rattle.std.proofs.shelf.Tests.{both-ways, cases-bool, true≢false, or-cases, or-left, or-right, or-from, cases-lt}
-use Rattle.theory.specs.Blocks.{Sets, count-below, largest-to}
+use Rattle.theory.specs.Sets.{Sets, count-below, largest-to}
 use Rattle.theory.specs.Delays.{some-to}
 
 -- a figure that counts under a test is no greater under a wider one

@@ -10,8 +10,8 @@ use Rattle.std.proofs.shelf.Lists.{length-push}
 use Rattle.std.specs.Finite.{nth}
 use Rattle.std.specs.declared.option.Option.{Option}
 use Rattle.std.specs.declared.option.Option.the-variants.{Some, None}
-use Rattle.theory.specs.Figures.{Figures, Table, Fault}
-use Rattle.theory.specs.Edits.{Edit, refusal, left-by, after, Edited}
+use Rattle.theory.specs.Figures.{Figures, Table, Fault, after}
+use Rattle.theory.specs.Edits.{Edit, refusal, left-by, Edited}
 use Rattle.theory.specs.History.{Accepted, Told, Answered, History}
 use Rattle.theory.proofs.Standing.{Row-is, told-at, row-told, accepted-one}
 use Rattle.theory.proofs.Growing.{split, rows-granted, row-quiet, row-over}

@@ -4,7 +4,7 @@ use mathlib.Core.Bool.{Bool, cond}
 use mathlib.Core.Path.{_≡_}
 use Rattle.std.specs.declared.option.Option.{Option}
 use Rattle.std.specs.declared.option.Option.the-variants.{Some, None}
-use Rattle.theory.specs.Figures.{Timing, Figures, Table, Fault, fault, is-row, with-row, priorities, run-time-top, ticks-top, within}
+use Rattle.theory.specs.Figures.{Timing, Figures, Table, Fault, after, fault, is-row, with-row, priorities, run-time-top, ticks-top, within}
 
 pub data Edit : Type 0 where
   enter : ℕ → Timing → Edit  -- a row with this timing at this priority
@@ -45,11 +45,6 @@ abbrev pub left-by : Edit → Table → Table
 left-by (enter p w) rows = with-row p (Some (record { timing = w; limit = 1 })) rows
 left-by (strike p) rows = with-row p None rows
 left-by (limit p k) rows = with-row p (capped k (rows p)) rows
-
--- new after an accepted call, old after a refused one
-abbrev pub after : Option Fault → Table → Table → Table
-after None new old = new
-after (Some e) new old = old
 
 -- One edit made in a sheet: its answer, which is None where it was accepted, and the sheet afterwards.
 pub record Edited (e : Edit) (rows : Table) (answer : Option Fault) (rows′ : Table) : Type 0 where

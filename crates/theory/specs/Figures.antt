@@ -68,3 +68,8 @@ pub record Fault : Type 0 where
 
 abbrev pub fault : ℕ → ℕ → Fault
 fault n p = record { number = n; place = p }
+
+-- what stands after a call that is answered so: new where it was accepted, and old where it was refused
+abbrev pub after : {X : Type 0} → Option Fault → X → X → X
+after None new old = new
+after (Some e) new old = old

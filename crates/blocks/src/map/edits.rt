@@ -1,7 +1,8 @@
 ghost use Prim.Native.Nat.{_<_, _≤_};
 ghost use mathlib.Core.Path.{_≡_};
 ghost use Rattle.std.specs.declared.result.Result.the-variants.{Ok, Err};
-ghost use Rattle.theory.specs.Blocks.{FootprintAnswer, SameBlocks, fresh-blocks, left-by, reload-top, with-footprint};
+ghost use Rattle.theory.specs.Blocks.{FootprintAnswer, SameBlocks, fresh-blocks, reload-top, with-footprint};
+ghost use Rattle.theory.specs.Figures.{after};
 ghost use Rattle.names.specs.Refusals.{refused};
 ghost use Rattle.blocks.specs.Members.{has};
 ghost use Rattle.blocks.specs.Views.{blocks-of};
@@ -38,7 +39,7 @@ impl BlockMap {
         useful: CacheSets,
     ) -> Result<(), Refusal>
         ensures answer { λ r. ⌜ FootprintAnswer (p .0) (has evicting) (has useful) (refused r) ⌝ }
-        ensures after { λ r. ⌜ SameBlocks (blocks-of (now (self .exit))) (left-by (refused r) (with-footprint (p .0) (has evicting) (has useful) (blocks-of (now (self .entry)))) (blocks-of (now (self .entry)))) ⌝ }
+        ensures left { λ r. ⌜ SameBlocks (blocks-of (now (self .exit))) (after (refused r) (with-footprint (p .0) (has evicting) (has useful) (blocks-of (now (self .entry)))) (blocks-of (now (self .entry)))) ⌝ }
     {
         let k = p.index()?;
         if let Some(s) = useful.first_outside(&evicting) {

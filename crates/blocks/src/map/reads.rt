@@ -1,6 +1,7 @@
 ghost use Prim.Native.Nat.{_≤_};
 ghost use mathlib.Core.Path.{_≡_};
-ghost use Rattle.theory.specs.Blocks.{Inside, SameSets, cache-sets, reload-top};
+ghost use Rattle.theory.specs.Sets.{Inside, SameSets, cache-sets};
+ghost use Rattle.theory.specs.Blocks.{reload-top};
 ghost use Rattle.blocks.specs.Members.{has};
 ghost use Rattle.blocks.specs.Views.{blocks-of};
 use super::super::sets::CacheSets;

@@ -2,7 +2,7 @@ use Prim.Native.Nat.{pred}
 use native.Mathlib.Omega.{arith}
 use mathlib.Core.Bool.{Bool, _||_}
 use mathlib.Core.Path.{_≡_, refl, sym, ap, _∙_}
-use Rattle.theory.specs.Blocks.{in-one, join}
+use Rattle.theory.specs.Sets.{in-one, join}
 use Rattle.theory.specs.Delays.{some-to}
 use Rattle.theory.proofs.Counting.{some-start}
 use Rattle.blocks.specs.Members.{has}

@@ -1,6 +1,6 @@
 use Prim.Native.Nat.{pred, ℕ, _<_}
 use mathlib.Core.Path.{_≡_}
-use Rattle.theory.specs.Blocks.{cache-sets, in-one}
+use Rattle.theory.specs.Sets.{cache-sets, in-one}
 use Rattle.theory.specs.Delays.{some-to}
 use Rattle.blocks.specs.Members.{has}
 use Rattle.blocks.specs.Views.{blocks-of}

@@ -1,6 +1,6 @@
 use Prim.Native.Nat.{pred}
 use mathlib.Core.Path.{_≡_}
-use Rattle.theory.specs.Blocks.{counted, largest-to}
+use Rattle.theory.specs.Sets.{counted, largest-to}
 use Rattle.blocks.specs.Members.{has}
 use Rattle.blocks.specs.Views.{blocks-of}
 use Rattle.delay.specs.Reckonings.{among-size}

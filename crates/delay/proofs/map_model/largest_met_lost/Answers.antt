@@ -1,5 +1,5 @@
 use mathlib.Core.Path.{refl, _∙_}
-use Rattle.theory.specs.Blocks.{met-size}
+use Rattle.theory.specs.Reckonings.{met-size}
 use Rattle.delay.specs.Reckonings.{among-size}
 use Rattle.delay.proofs.Unions.{largest-same, meet-same, size-same}
 use Rattle.delay.proofs.map_model.largest_met_lost.Needs as need

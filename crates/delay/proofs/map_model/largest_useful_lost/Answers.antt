@@ -1,5 +1,5 @@
 use mathlib.Core.Path.{_∙_}
-use Rattle.theory.specs.Blocks.{useful-size}
+use Rattle.theory.specs.Reckonings.{useful-size}
 use Rattle.blocks.specs.Members.{has}
 use Rattle.blocks.specs.Views.{blocks-of}
 use Rattle.delay.specs.Reckonings.{among-size}

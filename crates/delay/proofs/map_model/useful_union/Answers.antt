@@ -1,7 +1,7 @@
 use native.Mathlib.Omega.{arith}
 use mathlib.Core.Bool.{Bool, _||_}
 use mathlib.Core.Path.{_≡_, sym, ap, _∙_}
-use Rattle.theory.specs.Blocks.{join, union}
+use Rattle.theory.specs.Sets.{join, union}
 use Rattle.theory.proofs.Counting.{some-start}
 use Rattle.blocks.specs.declared.sets.CacheSets.{CacheSets}
 use Rattle.blocks.specs.Members.{has}

@@ -1,9 +1,8 @@
 use Prim.Native.Nat.{_-_}
 use native.Mathlib.Omega.{arith}
-use mathlib.Core.Bool.{Bool, _&&_}
-use mathlib.Core.Path.{refl, ap, _∙_}
+use mathlib.Core.Path.{refl}
 use Rattle.std.proofs.shelf.Tests.{and-right}
-use Rattle.blocks.proofs.Maps.{Bare, fresh-bare, fresh-nested}
+use Rattle.blocks.proofs.Maps.{fresh-bare, fresh-nested}
 use Rattle.blocks.proofs.map.BlockMap.new.Needs as need
 
 pub ghost-result : need.ghost-result

@@ -1,5 +1,5 @@
 use Prim.Native.Nat.{_*_}
-use Rattle.theory.specs.Blocks.{Inside}
+use Rattle.theory.specs.Sets.{Inside}
 use Rattle.blocks.specs.Members.{has}
 use Rattle.blocks.proofs.sets.CacheSets.first_outside.Given as given
 

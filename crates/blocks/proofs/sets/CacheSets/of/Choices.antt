@@ -1,5 +1,5 @@
 use lib.ListN.{take}
-use Rattle.theory.specs.Blocks.{SameSets}
+use Rattle.theory.specs.Sets.{SameSets}
 use Rattle.blocks.specs.Members.{has, listed}
 use Rattle.blocks.proofs.sets.CacheSets.of.Given as given
 

@@ -1,7 +1,6 @@
-use Prim.Native.Nat.{_^_, _<_, _≤_}
 use native.Mathlib.Omega.{arith}
 use mathlib.Core.Path.{sym}
-use lib.Count.{ones, ones-le}
+use lib.Count.{ones-le}
 use lib.ListN.{getD}
 use Rattle.blocks.proofs.Words.{size-words}
 use Rattle.blocks.proofs.sets.CacheSets.size.Needs as need

@@ -3,7 +3,8 @@ use native.Mathlib.Omega.{arith}
 use mathlib.Core.Path.{sym, ap₂, _∙_}
 use Rattle.std.proofs.shelf.Bits.{mul-le}
 use Rattle.std.proofs.shelf.Tests.{cond-true}
-use Rattle.theory.specs.Blocks.{cache-sets, reload-top}
+use Rattle.theory.specs.Sets.{cache-sets}
+use Rattle.theory.specs.Blocks.{reload-top}
 use Rattle.theory.specs.Delays.{affected, asked}
 use Rattle.theory.proofs.Charging.{lost-same}
 use Rattle.blocks.specs.Views.{blocks-of}

@@ -1,5 +1,5 @@
 use Prim.Native.Nat.{_-_}
-use mathlib.Core.Path.{sym, _∙_}
+use mathlib.Core.Path.{sym}
 use Rattle.theory.specs.Figures.{priorities, within}
 use Rattle.delay.proofs.RowBits.{index-ok, row-read}
 use Rattle.delay.proofs.rows.RowSet.contains.Needs as need
