@@ -1,7 +1,7 @@
 ghost use Prim.Native.Nat.{ℕ, _≤_};
 ghost use mathlib.Core.List.{List};
 ghost use mathlib.Core.Path.{_≡_};
-ghost use Rattle.theory.specs.Delays.{Alike, NoGreater, too-much};
+ghost use Rattle.theory.specs.Delays.{Alike, Charge, NoGreater, too-much};
 use names::Priority;
 
 /// The greatest charge, which means "too much".
@@ -14,7 +14,7 @@ pub const TOO_MUCH: u32 = 1_048_575;
 /// same priorities, one that has no greater number at 1 to i and at b has no greater charge. And a charge is at most
 /// 1048575.
 pub trait DelayModel {
-    ghost charge: { Self → ℕ → ℕ → ℕ → List ℕ → ℕ };
+    ghost charge: { Self → Charge };
 
     law monotone: { (m : Self) (i b j : ℕ) (g h : List ℕ) → NoGreater i b g h → charge m i b j g ≤ charge m i b j h };
 
