@@ -15,7 +15,7 @@ use Rattle.std.proofs.shelf.Lists.{take-more}
 use Rattle.std.proofs.shelf.Tests.{and-parts, cases-lt, cases-eq, ne-eqb, not-true}
 use Rattle.std.proofs.shelf.Ways.{tells}
 use Rattle.std.specs.declared.option.Option.the-variants.{Some}
-use Rattle.theory.specs.Sets.{Sets, SameSets, Inside, FirstOutside, cache-sets, count-below, size, join, meet}
+use Rattle.theory.specs.Sets.{Sets, SameSets, Inside, FirstOutside, cache-sets, count-below, size, union, intersection}
 use Rattle.theory.proofs.Counting.{count-part, count-same}
 use Rattle.blocks.specs.Members.{all-sets, bit, in-words, listed, no-sets, plus}
 use Rattle.blocks.proofs.Bitwise.{bit-and, bit-or, bit-not, bit-pow, bit-zero, lowest, ones-count}
@@ -29,14 +29,14 @@ four P a b c d (suc (suc (suc zero))) l = d
 four P a b c d (suc (suc (suc (suc q)))) l = let never : ⊥ = omega arith in absurd never
 
 module _ (words xs ys : List ℕ) where
-  -- words that are met one by one, and words that are joined so
-  pub met-words : ((q : ℕ) → q < 4 → getD words q 0 ≡ bitAnd (getD xs q 0) (getD ys q 0)) → SameSets (in-words words) (meet (in-words xs) (in-words ys))
-  unfolding in-words meet
-  met-words each s l = ap (λ (n : ℕ). bit n (s % 64)) (each (s / 64) (omega arith)) ∙ bit-and _ _ (s % 64)
+  -- intersection and union, word by word
+  pub intersection-words : ((q : ℕ) → q < 4 → getD words q 0 ≡ bitAnd (getD xs q 0) (getD ys q 0)) → SameSets (in-words words) (intersection (in-words xs) (in-words ys))
+  unfolding in-words intersection
+  intersection-words each s l = ap (λ (n : ℕ). bit n (s % 64)) (each (s / 64) (omega arith)) ∙ bit-and _ _ (s % 64)
 
-  pub joined-words : ((q : ℕ) → q < 4 → getD words q 0 ≡ bitOr (getD xs q 0) (getD ys q 0)) → SameSets (in-words words) (join (in-words xs) (in-words ys))
-  unfolding in-words join
-  joined-words each s l = ap (λ (n : ℕ). bit n (s % 64)) (each (s / 64) (omega arith)) ∙ bit-or _ _ (s % 64)
+  pub union-words : ((q : ℕ) → q < 4 → getD words q 0 ≡ bitOr (getD xs q 0) (getD ys q 0)) → SameSets (in-words words) (union (in-words xs) (in-words ys))
+  unfolding in-words union
+  union-words each s l = ap (λ (n : ℕ). bit n (s % 64)) (each (s / 64) (omega arith)) ∙ bit-or _ _ (s % 64)
 
 in-word : (words : List ℕ) (q t : ℕ) → t < 64 → in-words words (q * 64 + t) ≡ bit (getD words q 0) t
 unfolding in-words

@@ -1,5 +1,5 @@
 ghost use mathlib.Core.Path.{_≡_};
-ghost use Rattle.theory.specs.Sets.{FirstOutside, SameSets, join, meet, size};
+ghost use Rattle.theory.specs.Sets.{FirstOutside, SameSets, union, intersection, size};
 ghost use Rattle.blocks.specs.Members.{all-sets, has, listed, no-sets, plus};
 
 /// Some of the 256 sets of the cache.
@@ -55,7 +55,7 @@ impl CacheSets {
 
     /// The sets that are among these or the others.
     pub fn union(&self, other: &CacheSets) -> CacheSets
-        ensures { λ r. ⌜ SameSets (has r) (join (has (now (self .entry))) (has (now (other .entry)))) ⌝ }
+        ensures { λ r. ⌜ SameSets (has r) (union (has (now (self .entry))) (has (now (other .entry)))) ⌝ }
     {
         let [a, b, c, d] = self.words;
         let [e, f, g, h] = other.words;
@@ -65,8 +65,8 @@ impl CacheSets {
     }
 
     /// The sets that are among these and the others.
-    pub fn meet(&self, other: &CacheSets) -> CacheSets
-        ensures { λ r. ⌜ SameSets (has r) (meet (has (now (self .entry))) (has (now (other .entry)))) ⌝ }
+    pub fn intersection(&self, other: &CacheSets) -> CacheSets
+        ensures { λ r. ⌜ SameSets (has r) (intersection (has (now (self .entry))) (has (now (other .entry)))) ⌝ }
     {
         let [a, b, c, d] = self.words;
         let [e, f, g, h] = other.words;

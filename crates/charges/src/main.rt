@@ -16,10 +16,10 @@ use std::error::AnyError;
 use std::io;
 
 const RECKONINGS: [Reckoning; 4] = [
-    Reckoning::Evicting,
-    Reckoning::LargestUseful,
-    Reckoning::UnionMet,
-    Reckoning::LargestMet,
+    Reckoning::EvictingOnly,
+    Reckoning::UsefulOnly,
+    Reckoning::UsefulUnion,
+    Reckoning::EvictingUnion,
 ];
 
 // Row 1 loads blocks into sets 0 to 3. Row 2 loads blocks into sets 2, 3 and 9, and uses them again.
@@ -54,7 +54,7 @@ fn print_charges(
         print!(rt, "{reckoned:>6}")?;
     }
     let below = MapModel {
-        reckoning: Reckoning::UnionMet,
+        reckoning: Reckoning::UsefulUnion,
         map,
     };
     let switched = charge(&Switch { below, cost }, column);

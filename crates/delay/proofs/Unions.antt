@@ -5,7 +5,7 @@ use mathlib.Core.Bool.{Bool, true, false, and-true, or-comm, _&&_, _||_}
 use mathlib.Core.Path.{_≡_, sym, ap, ap₂, fun-ext, _∙_}
 use lib.Dec.{leb}
 use Rattle.std.proofs.shelf.Tests.{and-left, cond-false, cond-true, le-leb, lt-leb}
-use Rattle.theory.specs.Sets.{Sets, SameSets, cache-sets, size, counted, in-one, largest, largest-to, meet, union}
+use Rattle.theory.specs.Sets.{Sets, SameSets, cache-sets, size, counted, in-one, largest, largest-to, intersection, union-over}
 use Rattle.theory.specs.Reckonings.{up-to}
 use Rattle.theory.specs.Delays.{some-to}
 use Rattle.blocks.specs.Members.{all-sets}
@@ -27,8 +27,8 @@ abbrev pub always : ℕ → Bool
 always k = true
 
 -- a union over the rows up to j ends there
-pub union-up-to : (x : ℕ → Sets) (j s : ℕ) → j ≤ 32 → some-to (in-one always x s) j ≡ union (up-to j) x s
-unfolding union in-one
+pub union-up-to : (x : ℕ → Sets) (j s : ℕ) → j ≤ 32 → some-to (in-one always x s) j ≡ union-over (up-to j) x s
+unfolding union-over in-one
 union-up-to x j s l =
     let rest : j + (32 - j) ≡ 32 = omega arith in
     some-same (in-one always x s) (in-one (up-to j) x s) j (λ k low high. sym (ap (λ (v : Bool). v && x k s) (le-leb k j high)))
@@ -51,14 +51,14 @@ module _ (test : ℕ → Bool) (f : ℕ → ℕ) (k : ℕ) (l : 1 ≤ k) where
 pub size-same : (x y : Sets) → SameSets x y → size x ≡ size y
 size-same x y same = count-same x y cache-sets same
 
-pub meet-same : (x y v w : Sets) → SameSets x v → SameSets y w → SameSets (meet x y) (meet v w)
-unfolding meet
-meet-same x y v w left right s l = ap₂ _&&_ (left s l) (right s l)
+pub intersection-same : (x y v w : Sets) → SameSets x v → SameSets y w → SameSets (intersection x y) (intersection v w)
+unfolding intersection
+intersection-same x y v w left right s l = ap₂ _&&_ (left s l) (right s l)
 
 -- every set is among all
-pub meet-all : (x y : Sets) → SameSets y all-sets → SameSets (meet x y) x
-unfolding meet
-meet-all x y all s l = ap (λ (v : Bool). x s && v) (all s l) ∙ and-true (x s)
+pub intersection-all : (x y : Sets) → SameSets y all-sets → SameSets (intersection x y) x
+unfolding intersection
+intersection-all x y all s l = ap (λ (v : Bool). x s && v) (all s l) ∙ and-true (x s)
 
 pub largest-same : (test : ℕ → Bool) (f g : ℕ → ℕ) → ((k : ℕ) → f k ≡ g k) → largest test f ≡ largest test g
 largest-same test f g same = ap (largest test) (fun-ext same)

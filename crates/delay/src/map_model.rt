@@ -3,7 +3,7 @@ ghost use mathlib.Core.Bool.{false};
 ghost use mathlib.Core.List.{List};
 ghost use mathlib.Core.Path.{_≡_};
 ghost use Rattle.theory.specs.Delays.{affected, some-row};
-ghost use Rattle.theory.specs.Sets.{SameSets, largest, union};
+ghost use Rattle.theory.specs.Sets.{SameSets, largest, union-over};
 ghost use Rattle.theory.specs.Reckonings.{Sharper, lost-e, lost-u, lost-v, lost-x, reloads, up-to};
 ghost use Rattle.blocks.specs.Members.{has};
 ghost use Rattle.blocks.specs.Views.{blocks-of};
@@ -29,7 +29,7 @@ pub struct MapModel {
 
 // The union of the useful sets of some rows.
 fn useful_union(map: &BlockMap, rows: RowSet) -> CacheSets
-    ensures { λ r. ⌜ SameSets (has r) (union (in-rows rows) (blocks-of (now (map .entry)) .useful)) ⌝ }
+    ensures { λ r. ⌜ SameSets (has r) (union-over (in-rows rows) (blocks-of (now (map .entry)) .useful)) ⌝ }
 {
     let mut all = CacheSets::empty();
     for k in 1..=PRIORITIES {
@@ -43,7 +43,7 @@ fn useful_union(map: &BlockMap, rows: RowSet) -> CacheSets
 // The union of the evicting sets of j and the rows above it.
 fn evicting_union(map: &BlockMap, j: Priority) -> CacheSets
     requires { ⌜ j .0 ≤ 32 ⌝ }
-    ensures { λ r. ⌜ SameSets (has r) (union (up-to (j .0)) (blocks-of (now (map .entry)) .evicting)) ⌝ }
+    ensures { λ r. ⌜ SameSets (has r) (union-over (up-to (j .0)) (blocks-of (now (map .entry)) .evicting)) ⌝ }
 {
     let mut all = CacheSets::empty();
     for p in 1..j.0 + 1 {
@@ -59,14 +59,14 @@ fn largest_among(map: &BlockMap, rows: RowSet, sets: &CacheSets) -> u32
     let mut most: u32 = 0;
     for k in 1..=PRIORITIES {
         if rows.contains(Priority(k)) {
-            most = most.max(map.useful(Priority(k)).meet(sets).size());
+            most = most.max(map.useful(Priority(k)).intersection(sets).size());
         }
     }
     most
 }
 
 // The blocks that are lost by each reckoning, with the affected rows given.
-fn evicting_lost(map: &BlockMap, j: Priority, rows: RowSet) -> u32
+fn evicting_only_lost(map: &BlockMap, j: Priority, rows: RowSet) -> u32
     ensures { λ r. ⌜ r ≡ lost-e (blocks-of (now (map .entry))) (j .0) (in-rows rows) ⌝ }
 {
     if rows.is_empty() {
@@ -76,19 +76,20 @@ fn evicting_lost(map: &BlockMap, j: Priority, rows: RowSet) -> u32
     }
 }
 
-fn largest_useful_lost(map: &BlockMap, j: Priority, rows: RowSet) -> u32
+fn useful_only_lost(map: &BlockMap, j: Priority, rows: RowSet) -> u32
     ensures { λ r. ⌜ r ≡ lost-u (blocks-of (now (map .entry))) (j .0) (in-rows rows) ⌝ }
 {
     largest_among(map, rows, &CacheSets::full())
 }
 
-fn union_met_lost(map: &BlockMap, j: Priority, rows: RowSet) -> u32
+fn useful_union_lost(map: &BlockMap, j: Priority, rows: RowSet) -> u32
     ensures { λ r. ⌜ r ≡ lost-v (blocks-of (now (map .entry))) (j .0) (in-rows rows) ⌝ }
 {
-    useful_union(map, rows).meet(&map.evicting(j)).size()
+    let useful = useful_union(map, rows);
+    useful.intersection(&map.evicting(j)).size()
 }
 
-fn largest_met_lost(map: &BlockMap, j: Priority, rows: RowSet) -> u32
+fn evicting_union_lost(map: &BlockMap, j: Priority, rows: RowSet) -> u32
     requires { ⌜ j .0 ≤ 32 ⌝ }
     ensures { λ r. ⌜ r ≡ lost-x (blocks-of (now (map .entry))) (j .0) (in-rows rows) ⌝ }
 {
@@ -101,10 +102,10 @@ impl MapModel {
         ensures { λ r. ⌜ r ≡ lost-by (now (self .entry) .reckoning) (blocks-of (now (self .entry) .map)) (j .0) (in-rows rows) ⌝ }
     {
         match self.reckoning {
-            Reckoning::Evicting => evicting_lost(&self.map, j, rows),
-            Reckoning::LargestUseful => largest_useful_lost(&self.map, j, rows),
-            Reckoning::UnionMet => union_met_lost(&self.map, j, rows),
-            Reckoning::LargestMet => largest_met_lost(&self.map, j, rows),
+            Reckoning::EvictingOnly => evicting_only_lost(&self.map, j, rows),
+            Reckoning::UsefulOnly => useful_only_lost(&self.map, j, rows),
+            Reckoning::UsefulUnion => useful_union_lost(&self.map, j, rows),
+            Reckoning::EvictingUnion => evicting_union_lost(&self.map, j, rows),
         }
     }
 }

@@ -2,11 +2,11 @@
 #[derive(Clone, Copy, PartialEq, Eq, Debug)]
 pub enum Reckoning {
     /// E: the evicting blocks of j.
-    Evicting,
+    EvictingOnly,
     /// U: the most useful blocks of one affected row.
-    LargestUseful,
+    UsefulOnly,
     /// V: the useful blocks of all affected rows together, as far as j evicts them.
-    UnionMet,
+    UsefulUnion,
     /// X: the most useful blocks of one affected row, as far as j or a row above j evicts them.
-    LargestMet,
+    EvictingUnion,
 }

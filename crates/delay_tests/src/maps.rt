@@ -31,7 +31,7 @@ fn each_set_by_itself() -> Result<(), Fail> {
             let other = CacheSets::of(&[t]);
             check_eq(one.contains(t), s == t)?;
             check_eq(one.union(&other).size(), if s == t { 1 } else { 2 })?;
-            check_eq(one.meet(&other).size(), if s == t { 1 } else { 0 })?;
+            check_eq(one.intersection(&other).size(), if s == t { 1 } else { 0 })?;
         }
     }
     check_eq(CacheSets::of(&SETS).size(), 8)?;

@@ -56,10 +56,10 @@ const OWN: [u8; 32] = [
 fn charges(map: BlockMap, i: u8, b: u8, j: u8, column: &[u8]) -> [u32; 4] {
     let mut all = [0; 4];
     for (k, reckoning) in [
-        Reckoning::Evicting,
-        Reckoning::LargestUseful,
-        Reckoning::UnionMet,
-        Reckoning::LargestMet,
+        Reckoning::EvictingOnly,
+        Reckoning::UsefulOnly,
+        Reckoning::UsefulUnion,
+        Reckoning::EvictingUnion,
     ]
         .iter()
         .enumerate() {
@@ -167,7 +167,7 @@ fn a_switch_costs_at_most_4095() -> Result<(), Fail> {
 #[test]
 fn a_switch_over_each_model() -> Result<(), Fail> {
     let below = MapModel {
-        reckoning: Reckoning::UnionMet,
+        reckoning: Reckoning::UsefulUnion,
         map: two_rows()?,
     };
     let one = over(below, 1)?;

@@ -20,7 +20,7 @@ fn full_model() -> Result<Switch<MapModel>, Refusal> {
         map.footprint(Priority(p), CacheSets::full(), CacheSets::full())?;
     }
     let below = MapModel {
-        reckoning: Reckoning::UnionMet,
+        reckoning: Reckoning::UsefulUnion,
         map,
     };
     let cost = SwitchCost::new(7)?;

@@ -9,7 +9,7 @@ use mathlib.Core.Path.{_≡_, refl, sym, ap, _∙_}
 use lib.Dec.{leb, eqb}
 use Rattle.std.proofs.shelf.Bits.{mul-le}
 use Rattle.std.proofs.shelf.Tests.{and-parts, and-from, and-left, cases-bool, cond-true, cond-false, or-cases, leb-true, eqb-true, ltb-true, lt-ltb}
-use Rattle.theory.specs.Sets.{Sets, cache-sets, size, meet, in-one, union, counted, largest}
+use Rattle.theory.specs.Sets.{Sets, cache-sets, size, intersection, in-one, union-over, counted, largest}
 use Rattle.theory.specs.Blocks.{Blocks, reload-top}
 use Rattle.theory.specs.Reckonings.{Reckoned, useful-size, met-size, lost-e, lost-u, lost-v, lost-x, reloads, up-to, Sharper}
 use Rattle.theory.specs.Columns.{entry}
@@ -56,8 +56,8 @@ module _ (p q : ℕ → Bool) (wider : Wider p q) where
   wider-largest f =
       largest-mono (counted p f) (counted q f) priorities (λ k l u. cond-mono (p k) (q k) (f k) (wider k (l, u)))
 
-  wider-union : (x : ℕ → Sets) (s : ℕ) → union p x s ≡ true → union q x s ≡ true
-  unfolding union in-one
+  wider-union : (x : ℕ → Sets) (s : ℕ) → union-over p x s ≡ true → union-over q x s ≡ true
+  unfolding union-over in-one
   wider-union x s =
       some-mono (in-one p x s) (in-one q x s) priorities
       (λ k l u e. let parts = and-parts _ _ e in and-from _ _ (wider k (l, u) (parts .0)) (parts .1))
@@ -77,8 +77,8 @@ largest-none p f none =
     let zeros = largest-le (counted p f) 0 priorities (λ k l u. let e = cond-false (p k) (f k) 0 (none-some p priorities none k l u) in omega arith) in
     omega arith
 
-union-none : (p : ℕ → Bool) (x : ℕ → Sets) (s : ℕ) → some-row p ≡ false → union p x s ≡ false
-unfolding union in-one
+union-none : (p : ℕ → Bool) (x : ℕ → Sets) (s : ℕ) → some-row p ≡ false → union-over p x s ≡ false
+unfolding union-over in-one
 union-none p x s none =
     some-none (in-one p x s) priorities (λ k l u. and-left (p k) (x k s) (none-some p priorities none k l u))
 
@@ -100,13 +100,13 @@ keeps-u =
     }
 
 pub keeps-v : Keeps lost-v
-unfolding meet
+unfolding intersection
 keeps-v =
     record {
-      more = λ m j p q wider. count-mono (meet (union p (m .useful)) (m .evicting j)) (meet (union q (m .useful)) (m .evicting j)) cache-sets
+      more = λ m j p q wider. count-mono (intersection (union-over p (m .useful)) (m .evicting j)) (intersection (union-over q (m .useful)) (m .evicting j)) cache-sets
           (λ s e. let parts = and-parts _ _ e in and-from _ _ (wider-union p q wider (m .useful) s (parts .0)) (parts .1));
-      few = λ m j p. size-le (meet (union p (m .useful)) (m .evicting j));
-      none = λ m j p e. count-none (meet (union p (m .useful)) (m .evicting j)) cache-sets (λ s. and-left _ _ (union-none p (m .useful) s e));
+      few = λ m j p. size-le (intersection (union-over p (m .useful)) (m .evicting j));
+      none = λ m j p e. count-none (intersection (union-over p (m .useful)) (m .evicting j)) cache-sets (λ s. and-left _ _ (union-none p (m .useful) s e));
     }
 
 pub keeps-x : Keeps lost-x
@@ -153,23 +153,23 @@ reloads-less few many m i b j h less =
     [ true ↦ more | false ↦ omega arith ]
 
 v-below-e : (m : Blocks) (j : ℕ) (p : ℕ → Bool) → lost-v m j p ≤ lost-e m j p
-unfolding meet
+unfolding intersection
 v-below-e m j p =
     ⊎-elim
     (λ some.
     let own = cond-true (some-row p) (size (m .evicting j)) 0 some in
-    let part : lost-v m j p ≤ size (m .evicting j) = count-mono (meet (union p (m .useful)) (m .evicting j)) (m .evicting j) cache-sets (λ s e. and-parts (union p (m .useful) s) (m .evicting j s) e .1) in
+    let part : lost-v m j p ≤ size (m .evicting j) = count-mono (intersection (union-over p (m .useful)) (m .evicting j)) (m .evicting j) cache-sets (λ s e. and-parts (union-over p (m .useful) s) (m .evicting j s) e .1) in
     omega arith)
     (λ none. let zeros = keeps-v .none m j p none in omega arith)
     (cases-bool (some-row p))
 
 x-below-u : (m : Blocks) (j : ℕ) (p : ℕ → Bool) → lost-x m j p ≤ lost-u m j p
-unfolding counted met-size useful-size meet
+unfolding counted met-size useful-size intersection
 x-below-u m j p =
     largest-mono (counted p (met-size m j)) (counted p (useful-size m)) priorities
     (λ k l u.
-    let part = count-mono (meet (m .useful k) (union (up-to j) (m .evicting))) (m .useful k) cache-sets (λ s e. and-parts _ _ e .0) in
-    elim (p k) as (λ v. cond v (size (meet (m .useful k) (union (up-to j) (m .evicting)))) 0 ≤ cond v (size (m .useful k)) 0) [ true ↦ part | false ↦ omega arith ])
+    let part = count-mono (intersection (m .useful k) (union-over (up-to j) (m .evicting))) (m .useful k) cache-sets (λ s e. and-parts _ _ e .0) in
+    elim (p k) as (λ v. cond v (size (intersection (m .useful k) (union-over (up-to j) (m .evicting)))) 0 ≤ cond v (size (m .useful k)) 0) [ true ↦ part | false ↦ omega arith ])
 
 pub sharper : (m : Blocks) → Sharper m
 sharper m i b j h =

@@ -5,7 +5,7 @@ use mathlib.Core.List.{List}
 use lib.Dec.{leb}
 use Rattle.theory.specs.Blocks.{Blocks}
 use Rattle.theory.specs.Delays.{Charge, affected, asked, some-row}
-use Rattle.theory.specs.Sets.{largest, meet, size, union}
+use Rattle.theory.specs.Sets.{largest, intersection, size, union-over}
 
 -- How many blocks one job of row j makes the affected rows load again, by four reckonings.
 abbrev pub Reckoned : Type 0
@@ -24,7 +24,7 @@ lost-u m j rows = largest rows (useful-size m)
 
 -- V: the blocks that some affected row uses again, of those that j evicts
 abbrev pub lost-v : Reckoned
-lost-v m j rows = size (meet (union rows (m .useful)) (m .evicting j))
+lost-v m j rows = size (intersection (union-over rows (m .useful)) (m .evicting j))
 
 -- p is j, or more urgent
 abbrev pub up-to : ℕ → ℕ → Bool
@@ -32,7 +32,7 @@ up-to j p = leb p j
 
 -- X: the most blocks that one affected row uses again, of those that j and the rows above it evict
 unfoldable pub met-size : Blocks → ℕ → ℕ → ℕ
-met-size m j k = size (meet (m .useful k) (union (up-to j) (m .evicting)))
+met-size m j k = size (intersection (m .useful k) (union-over (up-to j) (m .evicting)))
 
 abbrev pub lost-x : Reckoned
 lost-x m j rows = largest rows (met-size m j)

@@ -37,19 +37,19 @@ abbrev pub size : Sets → ℕ
 size x = count-below x cache-sets
 
 -- the sets that are in both, and those that are in one or both
-unfoldable pub meet : Sets → Sets → Sets
-meet x y s = x s && y s
+unfoldable pub intersection : Sets → Sets → Sets
+intersection x y s = x s && y s
 
-unfoldable pub join : Sets → Sets → Sets
-join x y s = x s || y s
+unfoldable pub union : Sets → Sets → Sets
+union x y s = x s || y s
 
 -- s is in x k, and k passes the test
 unfoldable pub in-one : (ℕ → Bool) → (ℕ → Sets) → ℕ → ℕ → Bool
 in-one test x s k = test k && x k s
 
 -- the union of x k over the priorities k that pass the test
-unfoldable pub union : (ℕ → Bool) → (ℕ → Sets) → Sets
-union test x s = some-row (in-one test x s)
+unfoldable pub union-over : (ℕ → Bool) → (ℕ → Sets) → Sets
+union-over test x s = some-row (in-one test x s)
 
 -- f k where k passes the test, and 0 elsewhere
 unfoldable pub counted : (ℕ → Bool) → (ℕ → ℕ) → ℕ → ℕ

@@ -2,7 +2,7 @@ use Prim.Native.Nat.{pred}
 use native.Mathlib.Omega.{arith}
 use mathlib.Core.Bool.{Bool, _||_}
 use mathlib.Core.Path.{_≡_, refl, sym, ap, _∙_}
-use Rattle.theory.specs.Sets.{in-one, join}
+use Rattle.theory.specs.Sets.{in-one, union}
 use Rattle.theory.specs.Delays.{some-to}
 use Rattle.theory.proofs.Counting.{some-start}
 use Rattle.blocks.specs.Members.{has}
@@ -14,7 +14,7 @@ pub loop-p-holds : need.loop-p-holds
 loop-p-holds c s l = c .empty-all .ensures s l ∙ sym (some-start _)
 
 pub loop-p-again : need.loop-p-again
-unfolding join
+unfolding union
 loop-p-again c s l =
     let evicting = blocks-of (c .args .map .now) .evicting in
     let old = has (c .loop-p .all) s in

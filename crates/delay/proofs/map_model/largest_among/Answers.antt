@@ -6,7 +6,7 @@ use Rattle.blocks.specs.Members.{has}
 use Rattle.blocks.specs.Views.{blocks-of}
 use Rattle.delay.specs.Reckonings.{among-size}
 use Rattle.delay.specs.RowSets.{in-rows}
-use Rattle.delay.proofs.Unions.{largest-pass, largest-take, meet-same, size-same}
+use Rattle.delay.proofs.Unions.{largest-pass, largest-take, intersection-same, size-same}
 use Rattle.delay.proofs.map_model.largest_among.Needs as need
 use Rattle.delay.proofs.map_model.largest_among.Needs.{then-contains, else-contains}
 
@@ -22,7 +22,7 @@ loop-k-again c =
     elim (c .if-contains .came) [
       | then-contains w ↦
           let own : w .size .result ≡ sizes k =
-          w .size .ensures ∙ size-same _ _ (w .meet .ensures) ∙ size-same _ _ (meet-same _ _ _ _ (w .useful .ensures .value) (λ s l. refl)) in
+          w .size .ensures ∙ size-same _ _ (w .intersection .ensures) ∙ size-same _ _ (intersection-same _ _ _ _ (w .useful .ensures .value) (λ s l. refl)) in
           w .most-is ∙ w .max-most .ensures ∙ ap (max (c .loop-k .most)) own
           ∙ largest-take rows sizes k (omega arith) (c .loop-k .most) (sym (w .if-contains .ensures tt)) (c .loop-k .inv)
       | else-contains w ↦

@@ -1,7 +1,7 @@
 use native.Mathlib.Omega.{arith}
 use mathlib.Core.Bool.{Bool, _||_}
 use mathlib.Core.Path.{_≡_, sym, ap, _∙_}
-use Rattle.theory.specs.Sets.{join, union}
+use Rattle.theory.specs.Sets.{union, union-over}
 use Rattle.theory.proofs.Counting.{some-start}
 use Rattle.blocks.specs.declared.sets.CacheSets.{CacheSets}
 use Rattle.blocks.specs.Members.{has}
@@ -15,7 +15,7 @@ pub loop-k-holds : need.loop-k-holds
 loop-k-holds c s l = c .empty-all .ensures s l ∙ sym (some-start _)
 
 pub loop-k-again : need.loop-k-again
-unfolding join
+unfolding union
 loop-k-again c s l =
     let rows = in-rows (c .args .rows) in
     let useful = blocks-of (c .args .map .now) .useful in
@@ -31,7 +31,7 @@ loop-k-again c s l =
     ]
 
 pub returns : need.returns
-unfolding union
+unfolding union-over
 returns c s l =
     let end : c .loop-k .k ≡ 33 = omega arith in
     rw end at (c .loop-k .inv s l)

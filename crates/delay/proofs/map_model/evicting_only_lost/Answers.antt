@@ -1,7 +1,7 @@
 use mathlib.Core.Path.{sym, _∙_}
 use Rattle.std.proofs.shelf.Tests.{cond-true, not-false}
 use Rattle.delay.proofs.Unions.{size-same}
-use Rattle.delay.proofs.map_model.evicting_lost.Needs as need
+use Rattle.delay.proofs.map_model.evicting_only_lost.Needs as need
 
 pub returns-else-is-empty : need.returns-else-is-empty
 returns-else-is-empty c =
