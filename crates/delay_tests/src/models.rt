@@ -16,55 +16,18 @@ use names::refusal::Refusal;
 use names::refusal::RefusalDebug;
 use std::test::*;
 
-// Every row's own priority.
-const OWN: [u8; 32] = [
-    1,
-    2,
-    3,
-    4,
-    5,
-    6,
-    7,
-    8,
-    9,
-    10,
-    11,
-    12,
-    13,
-    14,
-    15,
-    16,
-    17,
-    18,
-    19,
-    20,
-    21,
-    22,
-    23,
-    24,
-    25,
-    26,
-    27,
-    28,
-    29,
-    30,
-    31,
-    32,
-];
-
 // The charges by each reckoning, E, U, V and X.
 fn charges(map: BlockMap, i: u8, b: u8, j: u8, column: &[u8]) -> [u32; 4] {
-    let mut all = [0; 4];
-    for (k, reckoning) in [
+    let by = [
         Reckoning::EvictingOnly,
         Reckoning::UsefulOnly,
         Reckoning::UsefulUnion,
         Reckoning::EvictingUnion,
-    ]
-        .iter()
-        .enumerate() {
+    ];
+    let mut all = [0; 4];
+    for k in 0..4 {
         let model = MapModel {
-            reckoning: *reckoning,
+            reckoning: by[k],
             map,
         };
         all[k] = model.charge_of(Priority(i), b, Priority(j), column);
@@ -137,9 +100,10 @@ fn the_greatest_charge_of_a_map() -> Result<(), Fail> {
     for p in 1..=32 {
         map.footprint(Priority(p), CacheSets::full(), CacheSets::full())?;
     }
-    check_eq(charges(map, 32, 0, 31, &OWN), [261_888; 4])?;
-    check_eq(charges(map, 31, 32, 31, &OWN), [261_888; 4])?;
-    check_eq(charges(map, 31, 0, 31, &OWN), [0; 4])
+    let column = [32; 32];
+    check_eq(charges(map, 1, 0, 31, &column), [261_888; 4])?;
+    check_eq(charges(map, 32, 0, 31, &column), [261_888; 4])?;
+    check_eq(charges(map, 32, 0, 32, &column), [0; 4])
 }
 
 fn over<M: DelayModel>(below: M, ticks: u16) -> Result<Switch<M>, Refusal>
