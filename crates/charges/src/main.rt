@@ -1,4 +1,6 @@
 // Prints what every delay model charges on a small sheet of two rows.
+#![tactic(auto)]
+
 use anyhow::anyhow;
 use blocks::map::BlockMap;
 use blocks::sets::CacheSets;

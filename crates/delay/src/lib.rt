@@ -1,4 +1,6 @@
 // Delay models: what a pre-emption costs in cache reloads.
+#![tactic(auto)]
+
 pub mod map_model;
 pub mod model;
 pub mod reckoning;

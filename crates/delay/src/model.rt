@@ -1,6 +1,6 @@
 ghost use Rattle.std.specs.Prelude.{◌≡◌, ℕ, ◌≤◌, List};
 ghost use Rattle.theory.specs.Delays.{Alike, Charge, NoGreater, too_much};
-ghost use Rattle.std.proofs.Common.{rules};
+ghost use Rattle.theory.proofs.Charging.{nothing_lawful};
 
 use names::Priority;
 
@@ -33,9 +33,9 @@ pub struct NoDelay;
 impl DelayModel for NoDelay {
     ghost charge = { λ _ _ _ _ _. 0 };
 
-    ghost monotone = { Prim.search rules };
+    ghost monotone = { λ _. nothing_lawful.monotone };
 
-    ghost bounded = { Prim.search rules };
+    ghost bounded = { λ _. nothing_lawful.bounded };
 
     fn charge_of(&self, _i: Priority, _b: u8, _j: Priority, _column: &[u8]) -> u32 {
         0
@@ -45,5 +45,5 @@ impl DelayModel for NoDelay {
 /// Of every delay model: columns with the same zeros and with equal entries at 1 to i and at b have equal charges.
 /// So of a column nothing counts but these entries and where it is 0, and a missing entry is a 0.
 pub fn alike<M: DelayModel>(m: &M)
-    ensures { (i b j : ℕ) (g h : List ℕ) → Alike i b g h → charge m.now i b j g ≡ charge m.now i b j h }
+    ensures { (i b j : ℕ) (g h : List ℕ) → Alike i b g h → M.charge m.now i b j g ≡ M.charge m.now i b j h }
 {}

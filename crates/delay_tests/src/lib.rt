@@ -1,4 +1,6 @@
 // Examples for block maps and delay models. They stand apart so that the crates they test are proved once.
+#![tactic(auto)]
+
 #[cfg(test)]
 mod maps;
 #[cfg(test)]

@@ -1,4 +1,6 @@
 // Reads lines of calls on a sheet from standard input, and prints the answer to each and the sheet that they leave.
+#![tactic(auto)]
+
 use anyhow::anyhow;
 use history::call::{Answer, Call};
 use names::refusal::Refusal;

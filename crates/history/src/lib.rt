@@ -1,4 +1,6 @@
 // Calls on a sheet, their answers, and the replay of a list of calls from a fresh sheet.
+#![tactic(auto)]
+
 ghost use Rattle.std.specs.Prelude.{◌≡◌, ◌≤◌, length, take, drop, IfOk};
 ghost use Rattle.theory.specs.Edits.{Edited};
 ghost use Rattle.theory.specs.History.{Replayed};

@@ -1,4 +1,6 @@
 // The words that every crate shares: priorities, thresholds, timings and refusals.
+#![tactic(auto)]
+
 ghost use Rattle.std.specs.Prelude.{◌≡◌, ◌-◌, if◌then◌else◌, Ok, Err};
 ghost use Rattle.theory.specs.Figures.{priorities, within};
 

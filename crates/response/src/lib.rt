@@ -1,4 +1,6 @@
 // Whether a row meets its deadline with a blocker in a column of thresholds, and if not, why not.
+#![tactic(auto)]
+
 mod case;
 mod checks;
 mod gather;

@@ -1,4 +1,6 @@
 // Calls on a sheet written as lines of text, and their replay.
+#![tactic(auto)]
+
 pub mod answer;
 pub mod line;
 pub mod parse;

@@ -1,4 +1,6 @@
 // Examples for the sheet and for scripts of calls. They stand apart so that the crates they test are proved once.
+#![tactic(auto)]
+
 #[cfg(test)]
 mod edits;
 #[cfg(test)]

@@ -1,4 +1,6 @@
 // Lines, words and numbers in a text of bytes.
+#![tactic(auto)]
+
 ghost use Rattle.std.specs.Prelude.{◌≡◌, ℕ, ◌<◌, ◌≤◌, true, false, [], ◌∷◌, length, IfSome, MatchOption, slice_index};
 ghost use Rattle.text.specs.Classes.{in_class};
 ghost use Rattle.text.specs.Numbers.{number_in};

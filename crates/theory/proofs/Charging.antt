@@ -168,6 +168,10 @@ pub sharper : (m : Blocks) → Sharper m
 sharper m i b j h =
     (reloads_less lost_v lost_e m i b j h (v_below_e m j (affected i b j h)), reloads_less lost_x lost_u m i b j h (x_below_u m j (affected i b j h)))
 
+-- charging nothing
+pub nothing_lawful : Lawful (λ i b j h. 0)
+nothing_lawful = record { monotone = λ i b j g h le. omega arith; bounded = λ i b j h. omega arith }
+
 pub switched_lawful : (w : ℕ) (c : Charge) → Lawful c → Lawful (switched w c)
 switched_lawful w c laws =
     record {
@@ -181,14 +185,14 @@ switched_lawful w c laws =
           [ true ↦ omega arith | false ↦ omega arith ];
     }
 
-module _ (w : ℕ) (c : Charge) (i b j : ℕ) (h : List ℕ) (row_in_range : asked i b j ≡ true) where
+module _ (w : ℕ) (c : Charge) (i b j : ℕ) (h : List ℕ) (in_range : asked i b j ≡ true) where
   pub switched_none : some_row (affected i b j h) ≡ false → c i b j h ≤ too_much → switched w c i b j h ≡ c i b j h
   switched_none none small =
       let plain : min (c i b j h + 0) too_much ≡ c i b j h = omega arith in
-      cond-true _ _ _ row_in_range ∙ ap (λ (n : ℕ). min (c i b j h + n) too_much) (cond-false _ w 0 none) ∙ plain
+      cond-true _ _ _ in_range ∙ ap (λ (n : ℕ). min (c i b j h + n) too_much) (cond-false _ w 0 none) ∙ plain
 
   pub switched_some : some_row (affected i b j h) ≡ true → switched w c i b j h ≡ min (c i b j h + w) too_much
-  switched_some some = cond-true _ _ _ row_in_range ∙ ap (λ (n : ℕ). min (c i b j h + n) too_much) (cond-true _ w 0 some)
+  switched_some some = cond-true _ _ _ in_range ∙ ap (λ (n : ℕ). min (c i b j h + n) too_much) (cond-true _ w 0 some)
 
 -- equal numbers are no greater, either way round
 pub alike_charged : (c : Charge) → Lawful c → (i b j : ℕ) (g h : List ℕ) → Alike i b g h → c i b j g ≡ c i b j h

@@ -10,10 +10,10 @@ use Rattle.history.proofs.replay.Goals as goal
 pub returns : goal.returns
 returns c =
     let calls = c.args.calls.now in
-    let last = c.make-calls-sheet.new.answers in
-    let len = c.in-ok-answers.answers.len in
+    let last = c.make_calls-sheet.new.answers in
+    let len = c.in_ok-answers.answers.len in
     let same : length last ≡ len = omega arith in
-    let few : length last ≤ length calls = omega (arith, c.in-ok-answers.ensures.len) in
-    let rest = drop (length last) c.in-ok-answers.answers.items in
-    subst (λ (l : List Answer). Replayed (edits_of calls) (faults_in l) (table_of c.make-calls-sheet.result))
-    (take_all (length calls) last few ∙ sym (take_at last rest len same)) c.make-calls-sheet.ensures.replays
+    let few : length last ≤ length calls = omega (arith, c.in_ok-answers.ensures.len) in
+    let rest = drop (length last) c.in_ok-answers.answers.items in
+    subst (λ (l : List Answer). Replayed (edits_of calls) (faults_in l) (table_of c.make_calls-sheet.result))
+    (take_all (length calls) last few ∙ sym (take_at last rest len same)) c.make_calls-sheet.ensures.replays

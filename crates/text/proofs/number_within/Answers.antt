@@ -3,8 +3,8 @@ use Rattle.text.specs.Text.{spelled}
 use Rattle.text.proofs.Spelling.{spelled_grows, spelled_more, spelled_all, digits_parts}
 use Rattle.text.proofs.number_within.Goals as goal
 
-pub overflow-sub-n : goal.overflow-sub-n
-overflow-sub-n c = (digits_parts c.args.word.now c.loop-b.b-index (omega arith) c.loop-b.invariant.2).0
+pub overflow_sub-n : goal.overflow_sub-n
+overflow_sub-n c = (digits_parts c.args.word.now c.loop-b.b-index (omega arith) c.loop-b.invariant.2).0
 
 pub returns-then-n-top : goal.returns-then-n-top
 returns-then-n-top c =

@@ -7,4 +7,4 @@ use Rattle.delay.proofs.map_model.evicting_union_lost.Goals as goal
 pub returns : goal.returns
 unfolding among_size met_size
 returns c =
-    c.largest-among.ensures ∙ largest_same _ _ _ (λ k. size_same _ _ (intersection_same _ _ _ _ (λ s l. refl) c.evicting-union.ensures))
+    c.largest_among.ensures ∙ largest_same _ _ _ (λ k. size_same _ _ (intersection_same _ _ _ _ (λ s l. refl) c.evicting_union.ensures))

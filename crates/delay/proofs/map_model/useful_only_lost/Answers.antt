@@ -9,5 +9,5 @@ use Rattle.delay.proofs.map_model.useful_only_lost.Goals as goal
 pub returns : goal.returns
 unfolding among_size useful_size
 returns c =
-    c.largest-among.ensures
+    c.largest_among.ensures
     ∙ largest_same _ _ _ (λ k. size_same _ _ (intersection_all ((blocks_of c.args.map.now).useful k) (has c.full.result) c.full.ensures))

@@ -9,23 +9,23 @@ use Rattle.response.proofs.Casing.{cased}
 use Rattle.response.proofs.Gathering.{dear_judged, dear_join}
 use Rattle.response.proofs.gather.case_of.Goals as goal
 
-pub returns-in-err-preempting : goal.returns-in-err-preempting
-returns-in-err-preempting g c =
+pub returns-in_err-preempting : goal.returns-in_err-preempting
+returns-in_err-preempting g c =
     let i = c.args.pair.row.0 in
     let h = c.args.column.now in
     let q : Question = question (table_of c.args.sheet.now) (g.M.DelayModel.charge c.args.model.now) h i c.args.pair.blocker (timing_of c.args.own.timing) in
-    let exit = err_from_is_err_and c.from-residual.result c.from-residual.ensures.1 in
-    subst (Cased q) (sym (exit.1 ∙ ap Err exit.2)) (dear_judged q refl _ _ (omega (arith, entry_at h i (omega arith))) c.in-err-preempting.ensures)
+    let exit = err_from_is_err_and c.from_residual.result c.from_residual.ensures.1 in
+    subst (Cased q) (sym (exit.1 ∙ ap Err exit.2)) (dear_judged q refl _ _ (omega (arith, entry_at h i (omega arith))) c.in_err-preempting.ensures)
 
-pub returns-in-err-others : goal.returns-in-err-others
-returns-in-err-others g c =
+pub returns-in_err-others : goal.returns-in_err-others
+returns-in_err-others g c =
     let i = c.args.pair.row.0 in
     let h = c.args.column.now in
     let q : Question = question (table_of c.args.sheet.now) (g.M.DelayModel.charge c.args.model.now) h i c.args.pair.blocker (timing_of c.args.own.timing) in
-    let exit = err_from_is_err_and c.from-residual-in-err-others.result c.from-residual-in-err-others.ensures.1 in
+    let exit = err_from_is_err_and c.from_residual-in_err-others.result c.from_residual-in_err-others.ensures.1 in
     subst (Cased q) (sym (exit.1 ∙ ap Err exit.2)) (
     dear_judged q refl i _ (omega arith)
-    (dear_join q.rows q.charge _ i _ (omega (arith, entry_at h i (omega arith))) c.in-ok-preempting.ensures.cheap c.in-err-others.ensures)
+    (dear_join q.rows q.charge _ i _ (omega (arith, entry_at h i (omega arith))) c.in_ok-preempting.ensures.cheap c.in_err-others.ensures)
     )
 
 pub returns : goal.returns
@@ -34,4 +34,4 @@ returns g c =
     let h = c.args.column.now in
     let m = c.args.model.now in
     cased c.args.sheet.now (g.M.DelayModel.charge m) (record { monotone = g.met.M.DelayModel.monotone m; bounded = g.met.M.DelayModel.bounded m }) h i c.args.pair.blocker _
-    c.requires.row c.requires.threshold c.blocking-blocking.ensures.value _ (sym (entry_at h i (omega arith))) c.in-ok-preempting.ensures c.in-ok-others.ensures
+    c.requires.row c.requires.threshold c.blocking-blocking.ensures.value _ (sym (entry_at h i (omega arith))) c.in_ok-preempting.ensures c.in_ok-others.ensures

@@ -5,9 +5,9 @@ use Rattle.response.specs.Verdicts.{verdict_of}
 use Rattle.response.proofs.Testing.{pairs_skip, pairs_pass}
 use Rattle.response.proofs.tests.first_failure.Goals as goal
 
-pub loop-b-preserved-then-not-can-block : goal.loop-b-preserved-then-not-can-block
-loop-b-preserved-then-not-can-block g c =
-    pairs_skip (table_of c.args.sheet.now) (g.M.DelayModel.charge c.args.model.now) c.args.column.now c.loop-i.i c.loop-b.b c.loop-b.invariant (sym c.if-not-can-block.ensures)
+pub loop-b-preserved-then-not-can_block : goal.loop-b-preserved-then-not-can_block
+loop-b-preserved-then-not-can_block g c =
+    pairs_skip (table_of c.args.sheet.now) (g.M.DelayModel.charge c.args.model.now) c.args.column.now c.loop-i.i c.loop-b.b c.loop-b.invariant (sym c.if-not-can_block.ensures)
 
 pub loop-b-preserved : goal.loop-b-preserved
 loop-b-preserved g c =

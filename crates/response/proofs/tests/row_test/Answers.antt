@@ -7,22 +7,22 @@ use Rattle.theory.specs.Tests.{RowRefusal}
 use Rattle.response.proofs.Testing.{refused_row, refused_misfit}
 use Rattle.response.proofs.tests.row_test.Goals as goal
 
-pub returns-in-err-row : goal.returns-in-err-row
-returns-in-err-row g c =
+pub returns-in_err-row : goal.returns-in_err-row
+returns-in_err-row g c =
     let rows = table_of c.args.sheet.now in
-    let exit = err_from_is_err_and c.from-residual.result c.from-residual.ensures.1 in
+    let exit = err_from_is_err_and c.from_residual.result c.from_residual.ensures.1 in
     record {
       refusal = subst (RowRefusal rows c.args.column.now c.args.i.0 c.args.b) (sym (ap refused (exit.1 ∙ ap Err exit.2)))
-          (refused_row rows c.args.column.now c.args.i.0 _ c.in-err-row.ensures _);
+          (refused_row rows c.args.column.now c.args.i.0 _ c.in_err-row.ensures _);
       outcome = search rules;
     }
 
-pub returns-in-err-check-column : goal.returns-in-err-check-column
-returns-in-err-check-column g c =
+pub returns-in_err-check_column : goal.returns-in_err-check_column
+returns-in_err-check_column g c =
     let rows = table_of c.args.sheet.now in
-    let exit = err_from_is_err_and c.from-residual-in-err-check-column.result c.from-residual-in-err-check-column.ensures.1 in
+    let exit = err_from_is_err_and c.from_residual-in_err-check_column.result c.from_residual-in_err-check_column.ensures.1 in
     record {
       refusal = subst (RowRefusal rows c.args.column.now c.args.i.0 c.args.b) (sym (ap refused (exit.1 ∙ ap Err exit.2)))
-          (refused_misfit rows c.args.column.now c.args.i.0 c.in-ok-row.row c.in-ok-row.ensures _ c.in-err-check-column.ensures _);
+          (refused_misfit rows c.args.column.now c.args.i.0 c.in_ok-row.row c.in_ok-row.ensures _ c.in_err-check_column.ensures _);
       outcome = search rules;
     }

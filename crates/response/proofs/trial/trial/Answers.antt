@@ -9,17 +9,17 @@ use Rattle.response.specs.Testing.{failure_of}
 use Rattle.response.proofs.Testing.{refused_row, column_refused, row_at_put}
 use Rattle.response.proofs.trial.trial.Goals as goal
 
-pub returns-in-err-row-at : goal.returns-in-err-row-at
-returns-in-err-row-at g c =
+pub returns-in_err-row_at : goal.returns-in_err-row_at
+returns-in_err-row_at g c =
     let rows = table_of c.args.sheet.now in
     let h = c.args.column.now in
     let p = c.args.p.0 in
     let q = c.args.q.0 in
-    let exit = err_from_is_err_and c.from-residual.result c.from-residual.ensures.1 in
+    let exit = err_from_is_err_and c.from_residual.result c.from_residual.ensures.1 in
     record {
       kept = refl;
       refusal = subst (TrialRefusal rows h p q) (sym (ap refused (exit.1 ∙ ap Err exit.2)))
-          (refused_row rows (put h p q) p _ (row_at_put rows h p q (Err _) c.in-err-row-at.ensures) _);
+          (refused_row rows (put h p q) p _ (row_at_put rows h p q (Err _) c.in_err-row_at.ensures) _);
       finding = search rules;
     }
 
@@ -31,7 +31,7 @@ returns g c =
     let q = c.args.q.0 in
     record {
       kept = c.drop-guard.ensures ∙ simp (set-set, set-get_or);
-      refusal = column_refused rows (put h p q) p c.in-ok-row-at.field-0 (row_at_put rows h p q (Ok c.in-ok-row-at.field-0) c.in-ok-row-at.ensures) _
-          (subst (λ (x : List ℕ). ColumnAnswer rows x (refused c.column-test.result)) c.column.ensures c.column-test.ensures.refusal);
-      finding = subst (λ (x : List ℕ). IfOk c.column-test.result (λ f. Found rows (g.M.DelayModel.charge c.args.model.now) x (failure_of f))) c.column.ensures c.column-test.ensures.finding;
+      refusal = column_refused rows (put h p q) p c.in_ok-row_at.field-0 (row_at_put rows h p q (Ok c.in_ok-row_at.field-0) c.in_ok-row_at.ensures) _
+          (subst (λ (x : List ℕ). ColumnAnswer rows x (refused c.column_test.result)) c.column.ensures c.column_test.ensures.refusal);
+      finding = subst (λ (x : List ℕ). IfOk c.column_test.result (λ f. Found rows (g.M.DelayModel.charge c.args.model.now) x (failure_of f))) c.column.ensures c.column_test.ensures.finding;
     }

@@ -3,8 +3,8 @@ use Rattle.std.proofs.lemmas.Bool.{and_right}
 use Rattle.blocks.proofs.Maps.{fresh_bare, fresh_nested}
 use Rattle.blocks.proofs.map.BlockMap.new.Goals as goal
 
-pub invariant-of-result : goal.invariant-of-result
-invariant-of-result c = (omega arith, (fresh_nested _ (record { evicting = c.empty.ensures; useful = c.empty-2.ensures }), tt))
+pub invariant_of-result : goal.invariant_of-result
+invariant_of-result c = record { small = omega arith; nested = fresh_nested _ (record { evicting = c.empty.ensures; useful = c.empty-2.ensures }) }
 
 pub returns : goal.returns
 returns c =

@@ -11,10 +11,10 @@ use Rattle.delay.specs.RowSets.{in_rows}
 use Rattle.delay.specs.Keeping.{keeps}
 use Rattle.delay.proofs.map_model.MapModelDelayModel.charge_of.Goals as goal
 
-pub overflow-mul-result : goal.overflow-mul-result
-overflow-mul-result c =
+pub overflow_mul-result : goal.overflow_mul-result
+overflow_mul-result c =
     let m = c.args.self.now in
-    let few = (keeps m.reckoning).few (blocks_of m.map) c.args.j.0 (in_rows c.affected-rows-rows.result) in
+    let few = (keeps m.reckoning).few (blocks_of m.map) c.args.j.0 (in_rows c.affected_rows-rows.result) in
     let lost-few : c.lost.result ≤ cache_sets = omega (arith, few, c.lost.ensures) in
     omega (arith, mul-le c.reload.result c.lost.result reload_top cache_sets c.reload.ensures.small lost-few)
 
@@ -23,5 +23,5 @@ returns c =
     let m = c.args.self.now in
     let i = c.args.i.0 in
     let j = c.args.j.0 in
-    let same = lost_same (lost_by m.reckoning) (keeps m.reckoning) (blocks_of m.map) j (in_rows c.affected-rows-rows.result) (affected i c.args.b j c.args.column.now) c.affected-rows-rows.ensures in
-    ap₂ ◌*◌ c.reload.ensures.value (c.lost.ensures ∙ same) ∙ sym (cond-true (asked i c.args.b j) _ _ (sym c.if-not-in-range.ensures))
+    let same = lost_same (lost_by m.reckoning) (keeps m.reckoning) (blocks_of m.map) j (in_rows c.affected_rows-rows.result) (affected i c.args.b j c.args.column.now) c.affected_rows-rows.ensures in
+    ap₂ ◌*◌ c.reload.ensures.value (c.lost.ensures ∙ same) ∙ sym (cond-true (asked i c.args.b j) _ _ (sym c.if-not-in_range.ensures))

@@ -6,24 +6,24 @@ use Rattle.theory.proofs.Counting.{some_same}
 use Rattle.delay.specs.RowSets.{in_rows}
 use Rattle.delay.proofs.switch.SwitchDelayModel.charge_of.Goals as goal
 
-pub returns-then-is-empty : goal.returns-then-is-empty
-returns-then-is-empty g c =
+pub returns-then-is_empty : goal.returns-then-is_empty
+returns-then-is_empty g c =
     let i = c.args.i.0 in
     let b = c.args.b in
     let j = c.args.j.0 in
     let h = c.args.column.now in
     let s = c.args.self.now in
-    let rows = some_same (in_rows c.affected-rows.result) (affected i b j h) 32 (λ k l u. c.affected-rows.ensures k (l, u)) in
-    c.charge-of-below.ensures
-    ∙ sym (switched_none s.cost.ticks (g.M.DelayModel.charge s.below) i b j h (sym c.if-not-in-range.ensures) (sym rows ∙ not-true _ (sym c.if-is-empty.ensures)) (g.met.M.DelayModel.bounded s.below i b j h))
+    let rows = some_same (in_rows c.affected_rows.result) (affected i b j h) 32 (λ k l u. c.affected_rows.ensures k (l, u)) in
+    c.charge_of-below.ensures
+    ∙ sym (switched_none s.cost.ticks (g.M.DelayModel.charge s.below) i b j h (sym c.if-not-in_range.ensures) (sym rows ∙ not-true _ (sym c.if-is_empty.ensures)) (g.met.M.DelayModel.bounded s.below i b j h))
 
-pub returns-else-is-empty : goal.returns-else-is-empty
-returns-else-is-empty g c =
+pub returns-else-is_empty : goal.returns-else-is_empty
+returns-else-is_empty g c =
     let i = c.args.i.0 in
     let b = c.args.b in
     let j = c.args.j.0 in
     let h = c.args.column.now in
     let s = c.args.self.now in
-    let rows = some_same (in_rows c.affected-rows.result) (affected i b j h) 32 (λ k l u. c.affected-rows.ensures k (l, u)) in
-    c.min.ensures ∙ ap₂ (λ (x y : ℕ). min (x + y) too_much) c.charge-of-below.ensures c.ticks.ensures.value
-    ∙ sym (switched_some s.cost.ticks (g.M.DelayModel.charge s.below) i b j h (sym c.if-not-in-range.ensures) (sym rows ∙ not-false _ (sym c.if-is-empty.ensures)))
+    let rows = some_same (in_rows c.affected_rows.result) (affected i b j h) 32 (λ k l u. c.affected_rows.ensures k (l, u)) in
+    c.min.ensures ∙ ap₂ (λ (x y : ℕ). min (x + y) too_much) c.charge_of-below.ensures c.ticks.ensures.value
+    ∙ sym (switched_some s.cost.ticks (g.M.DelayModel.charge s.below) i b j h (sym c.if-not-in_range.ensures) (sym rows ∙ not-false _ (sym c.if-is_empty.ensures)))

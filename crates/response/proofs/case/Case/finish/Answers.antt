@@ -13,7 +13,7 @@ loop-x-init c =
 pub loop-x-preserved : goal.loop-x-preserved
 loop-x-preserved c =
     let q = c.args.self.now in
-    let is : c.fixed-demand-fixed.result + c.ticks.result ≡ (equations_of q).finish c.args.k c.args.s c.loop-x.x = omega arith in
+    let is : c.fixed_demand-fixed.result + c.ticks.result ≡ (equations_of q).finish c.args.k c.args.s c.loop-x.x = omega arith in
     let next = climb_to (c.requires.regular.finish_up c.args.k c.args.s) c.loop-x.invariant.0 is in
     (next, finish_below (equations_of q) (own_timing q) c.requires.regular c.args.k c.args.s c.args.period _ c.requires.active c.requires.among c.requires.within next)
 

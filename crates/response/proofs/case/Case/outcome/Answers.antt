@@ -10,14 +10,14 @@ loop-k-init c =
     let q = c.args.self.now in
     (seen_none (equations_of q) (own_timing q), record { from = omega arith; up = omega arith; under = λ m p h. omega arith })
 
-pub overflow-mul-response : goal.overflow-mul-response
-overflow-mul-response c =
+pub overflow_mul-response : goal.overflow_mul-response
+overflow_mul-response c =
     let q = c.args.self.now in
     let p = c.in-Some.ensures in
     record { fits = omega (arith, released (equations_of q) (own_timing q) c.requires c.loop-k.k c.in-Some.period c.start-start.result p.0 c.start-start.ensures.is c.start-start.ensures.within) }
 
-pub overflow-sub-response : goal.overflow-sub-response
-overflow-sub-response c =
+pub overflow_sub-response : goal.overflow_sub-response
+overflow_sub-response c =
     let q = c.args.self.now in
     let p = c.in-Some.ensures in
     omega (

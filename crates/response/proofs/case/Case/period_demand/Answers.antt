@@ -1,7 +1,7 @@
 use Rattle.std.proofs.Common.{◌*◌, ◌≤◌, mul-le-mul, arith}
 use Rattle.response.proofs.case.Case.period_demand.Goals as goal
 
-pub overflow-add-result-2 : goal.overflow-add-result-2
-overflow-add-result-2 c =
-    let own : c.releases-before.result * c.run-time.result ≤ 100000000 * 16777215 = mul-le-mul {n₂ = 100000000} {m₂ = 16777215} (omega arith) (omega arith) in
+pub overflow_add-result-2 : goal.overflow_add-result-2
+overflow_add-result-2 c =
+    let own : c.releases_before.result * c.run_time.result ≤ 100000000 * 16777215 = mul-le-mul {n₂ = 100000000} {m₂ = 16777215} (omega arith) (omega arith) in
     record { fits = omega arith }
