@@ -4,7 +4,7 @@ use Rattle.std.proofs.Common.{◌≡◌, ℕ, zero, suc, ◌+◌, ◌-◌, ◌*�
 use Rattle.std.proofs.lemmas.Bool.{cases_lt, cond-true, cond-false, lt-ltb, le-ltb}
 use Rattle.theory.specs.Arrivals.{before, through}
 use Rattle.theory.specs.Delays.{too_much}
-use Rattle.theory.specs.Equations.{Question, Equations, equations, price, load, sum_below, above, Period, Start}
+use Rattle.theory.specs.Equations.{Question, Equations, equations, price, load, sum_below, above, Period}
 use Rattle.theory.specs.Figures.{Timing, Figures}
 use Rattle.theory.proofs.Arrivals.{before_up, through_up, through_before, before-through, before_some}
 use Rattle.theory.specs.Regular.{Mono, Regular}

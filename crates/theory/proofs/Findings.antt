@@ -1,14 +1,14 @@
 -- What is known of every row test over a sound sheet and a lawful delay model.
-use Rattle.std.proofs.Common.{◌≡◌, ℕ, ◌+◌, ◌*◌, ◌<◌, ◌≤◌, true, false, List, Some, None, Option, sym, refl, subst, ap₂, arith}
+use Rattle.std.proofs.Common.{◌≡◌, ℕ, ◌≤◌, true, List, Some, None, Option, sym, refl, subst, ap₂, arith}
 use mathlib.Core.Path.{fun_ext}
 use Rattle.std.proofs.lemmas.Bool.{false≢true}
 use Rattle.std.proofs.lemmas.Bool.Decides.{nat_tests}
 use Rattle.theory.specs.Columns.{entry, may_block}
-use Rattle.theory.specs.Delays.{Charge, NoGreater, Alike, Lawful}
+use Rattle.theory.specs.Delays.{Charge, NoGreater, Lawful}
 use Rattle.theory.specs.Equations.{Question, equations, question, contribution}
-use Rattle.theory.specs.Figures.{Timing, Figures, Table, InRange, Sound, is_row, priorities}
+use Rattle.theory.specs.Figures.{Figures, Table, InRange, Sound, is_row, priorities}
 use Rattle.theory.specs.Outcomes.{Verdict, passes, Judged}
-use Rattle.theory.specs.Tests.{OutcomeOf, RowOutcome, OneOutcome, Runs, JobsRun, NoLater, EasierNeverLater, AlikeOutcomes}
+use Rattle.theory.specs.Tests.{OutcomeOf, OneOutcome, JobsRun, EasierNeverLater, AlikeOutcomes}
 use Rattle.theory.proofs.Charging.{alike_charged}
 use Rattle.theory.proofs.Demands.{Apart, Proper, regular}
 use Rattle.theory.proofs.Jobs.{finishes_later, released, starts, finishes}

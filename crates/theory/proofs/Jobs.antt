@@ -1,14 +1,13 @@
 -- The jobs of an active period: each has a start below its end and a finish after the start and within it, and is
 -- finished after its release. Where an iteration for the next job, or for a finish, may start.
-use Rattle.std.proofs.Common.{◌≡◌, ℕ, zero, suc, ◌+◌, ◌-◌, ◌*◌, ◌<◌, ◌≤◌, sym, refl, ap, ◌∙◌, inl, inr, add-mul, eq-zero-or-pos, mul-pos, zero-mul, arith}
+use Rattle.std.proofs.Common.{◌≡◌, ℕ, ◌+◌, ◌-◌, ◌*◌, ◌<◌, ◌≤◌, refl, ap, ◌∙◌, inl, inr, eq-zero-or-pos, zero-mul, arith}
 use Rattle.std.proofs.lemmas.Bool.{cases_lt}
 use Rattle.theory.specs.Arrivals.{before}
 use Rattle.theory.specs.Equations.{Equations, Period, Start, Finish, Job, Response}
 use Rattle.theory.specs.Figures.{Timing}
-use Rattle.theory.specs.Least.{Least}
 use Rattle.theory.specs.Regular.{Climbs, Regular}
 use Rattle.theory.proofs.Arrivals.{before_under}
-use Rattle.theory.proofs.Solutions.{climb_first, least_under, has_least, least_one}
+use Rattle.theory.proofs.Solutions.{least_under, has_least, least_one}
 
 pub response_one : (e : Equations) (w : Timing) (k a b : ℕ) → Response e w k a → Response e w k b → a ≡ b
 response_one e w k a b x y =

@@ -4,7 +4,7 @@ use Rattle.theory.specs.Arrivals.{before, through}
 use Rattle.theory.specs.Columns.{entry}
 use Rattle.theory.specs.Delays.{Charge}
 use Rattle.theory.specs.Figures.{Timing, Figures, Table}
-use Rattle.theory.specs.Least.{Solves, Least}
+use Rattle.theory.specs.Least.{Least}
 
 -- what is asked of a row test
 pub record Question : Type 0 where
