@@ -1,4 +1,4 @@
-ghost use Rattle.std.specs.Prelude.{if_then_else_};
+ghost use Rattle.std.specs.Prelude.{if◌then◌else◌};
 ghost use Rattle.std.proofs.Common.{rules};
 
 use blocks::map::BlockMap;

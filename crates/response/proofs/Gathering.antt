@@ -1,13 +1,13 @@
 -- The rows above, gathered one by one.
-use Rattle.std.proofs.Common.{◌≡◌, ℕ, zero, suc, ◌+◌, ◌*◌, ◌<◌, ◌≤◌, true, Some, None, Option, sym, refl, ap, ◌∙◌, subst, inl, inr, arith}
+use Rattle.std.proofs.Common.{◌≡◌, ℕ, zero, suc, ◌+◌, ◌*◌, ◌<◌, ◌≤◌, Some, None, Option, sym, ap, ◌∙◌, subst, inl, inr, arith}
 use Rattle.std.proofs.lemmas.Bool.{cases_lt, both_ways}
 use Rattle.sheet.specs.declared.row.Row.{Row}
 use Rattle.sheet.specs.declared.table.Sheet.{Sheet}
 use Rattle.sheet.specs.Views.{figures, table_of}
 use Rattle.theory.specs.Arrivals.{before}
 use Rattle.theory.specs.Delays.{too_much}
-use Rattle.theory.specs.Equations.{Question, run_time_of, contribution, price, load, sum_below}
-use Rattle.theory.specs.Figures.{Timing, Figures, Table, is_row}
+use Rattle.theory.specs.Equations.{Question, run_time_of, contribution, price, load}
+use Rattle.theory.specs.Figures.{Figures, Table, is_row}
 use Rattle.theory.specs.Outcomes.{overcharged, Overcharged, Affordable, Judged}
 use Rattle.theory.proofs.Demands.{sum_next}
 use Rattle.response.specs.declared.source.Interference.{Interference}

@@ -1,5 +1,5 @@
 -- Refusals of the tests, and pairs of row and blocker one by one.
-use Rattle.std.proofs.Common.{◌≡◌, ℕ, ◌+◌, ◌-◌, ◌<◌, ◌≤◌, true, false, leb, ◌⊎◌, List, length, Some, None, Ok, Err, Option, Result, sym, ap, ◌∙◌, subst, inl, inr, arith, length-set}
+use Rattle.std.proofs.Common.{◌≡◌, ℕ, ◌+◌, ◌-◌, true, false, leb, List, length, Some, None, Ok, Err, Option, Result, sym, ap, ◌∙◌, subst, inl, inr, arith, length-set}
 use Rattle.std.proofs.lemmas.Bool.{false≢true, both_ways, cases_eq, cond-true, le-leb}
 use Rattle.names.specs.declared.refusal.Refusal as program
 use Rattle.names.specs.Refusals.{fault_of}

@@ -5,12 +5,11 @@ use Rattle.names.specs.declared.refusal.Refusal.{Refusal}
 use Rattle.names.specs.Refusals.{fault_of}
 use Rattle.sheet.specs.declared.row.Row.{Row}
 use Rattle.sheet.specs.Views.{figures}
-use Rattle.theory.specs.Columns.{may_block}
 use Rattle.theory.specs.Delays.{Charge}
 use Rattle.theory.specs.Edits.{unless}
 use Rattle.theory.specs.Figures.{Table, Fault, is_row, priorities, within}
-use Rattle.theory.specs.Outcomes.{Verdict, passed}
-use Rattle.theory.specs.Tests.{RowOutcome, PairPasses, Earlier}
+use Rattle.theory.specs.Outcomes.{Verdict}
+use Rattle.theory.specs.Tests.{PairPasses, Earlier}
 use Rattle.response.specs.declared.outcome.Outcome.{Outcome}
 use Rattle.response.specs.Verdicts.{verdict_of}
 

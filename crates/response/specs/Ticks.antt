@@ -1,5 +1,5 @@
 -- The ticks that rows above take.
-use Rattle.std.specs.Prelude.{ℕ, ◌*◌, List, take, sum_by}
+use Rattle.std.specs.Prelude.{ℕ, ◌*◌, take, sum_by}
 use Rattle.theory.specs.Arrivals.{before}
 use Rattle.names.specs.Timings.{timing_of}
 use Rattle.response.specs.declared.source.Source.{Source}

@@ -33,7 +33,7 @@ fn gather<M: DelayModel>(
     to: u8,
 ) -> Result<Interference, Priority>
     requires { (1 ≤ from) × ((from ≤ to) × (to ≤ 32)) }
-    ensures { Gathers (table_of sheet.now) (charges_in (charge model.now) column.now pair.row.0 pair.blocker) from to result }
+    ensures { Gathers (table_of sheet.now) (charges_in (M.charge model.now) column.now pair.row.0 pair.blocker) from to result }
 {
     let mut found = Interference::none();
     for j in from..to {
@@ -70,7 +70,7 @@ fn case_of<M: DelayModel>(
     requires wide { 32 ≤ length column.now }
     requires row { figures (Some own) ≡ table_of sheet.now pair.row.0 }
     requires threshold { Within pair.row.0 (entry column.now pair.row.0) }
-    ensures { Cased (question (table_of sheet.now) (charge model.now) column.now pair.row.0 pair.blocker (timing_of own.timing)) result }
+    ensures { Cased (question (table_of sheet.now) (M.charge model.now) column.now pair.row.0 pair.blocker (timing_of own.timing)) result }
 {
     let threshold = column[pair.row.0 as usize - 1];
     let preempting = gather(sheet, model, column, pair, 1, threshold)?;
@@ -95,7 +95,7 @@ pub fn judge<M: DelayModel>(
     requires wide { 32 ≤ length column.now }
     requires row { figures (Some own) ≡ table_of sheet.now pair.row.0 }
     requires threshold { Within pair.row.0 (entry column.now pair.row.0) }
-    ensures { Judged (question (table_of sheet.now) (charge model.now) column.now pair.row.0 pair.blocker (timing_of own.timing)) (verdict_of result) }
+    ensures { Judged (question (table_of sheet.now) (M.charge model.now) column.now pair.row.0 pair.blocker (timing_of own.timing)) (verdict_of result) }
 {
     match case_of(sheet, model, column, pair, own) {
         Ok(case) => case.outcome(),

@@ -24,7 +24,7 @@ pub fn own_column(sheet: &Sheet) -> [u8; 32]
 /// The outcome of each row in the column of own priorities, where no row has a blocker; none where no row is. The
 /// first is that of priority 1.
 pub fn own_outcomes<M: DelayModel>(sheet: &Sheet, model: &M) -> [Option<Outcome>; 32]
-    ensures { OwnOutcomes (table_of sheet.now) (charge model.now) result }
+    ensures { OwnOutcomes (table_of sheet.now) (M.charge model.now) result }
 {
     let column = own_column(sheet);
     let mut outcomes = [None; 32];

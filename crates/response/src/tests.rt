@@ -26,7 +26,7 @@ pub fn row_test<M: DelayModel>(
     b: u8,
 ) -> Result<Outcome, Refusal>
     ensures refusal { RowRefusal (table_of sheet.now) column.now i.0 b (refused result) }
-    ensures outcome { IfOk result (λ o. RowOutcome (table_of sheet.now) (charge model.now) column.now i.0 b (verdict_of o)) }
+    ensures outcome { IfOk result (λ o. RowOutcome (table_of sheet.now) (M.charge model.now) column.now i.0 b (verdict_of o)) }
 {
     let row = row_at(sheet, column, i)?;
     sheet.check_column(column)?;
@@ -41,7 +41,7 @@ pub fn row_test<M: DelayModel>(
 fn first_failure<M: DelayModel>(sheet: &Sheet, model: &M, column: &[u8]) -> Option<Failure>
     requires wide { 32 ≤ length column.now }
     requires fits { Fits (table_of sheet.now) column.now }
-    ensures { Found (table_of sheet.now) (charge model.now) column.now (failure_of result) }
+    ensures { Found (table_of sheet.now) (M.charge model.now) column.now (failure_of result) }
 {
     'search: {
         for i in 1..=PRIORITIES {
@@ -74,7 +74,7 @@ pub fn column_test<M: DelayModel>(
     column: &[u8],
 ) -> Result<Option<Failure>, Refusal>
     ensures refusal { ColumnAnswer (table_of sheet.now) column.now (refused result) }
-    ensures finding { IfOk result (λ f. Found (table_of sheet.now) (charge model.now) column.now (failure_of f)) }
+    ensures finding { IfOk result (λ f. Found (table_of sheet.now) (M.charge model.now) column.now (failure_of f)) }
 {
     sheet.check_column(column)?;
     Ok(first_failure(sheet, model, column))

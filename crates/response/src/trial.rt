@@ -51,7 +51,7 @@ pub fn trial<M: DelayModel>(
 ) -> Result<Option<Failure>, Refusal>
     ensures kept { column.new ≡ column.old }
     ensures refusal { TrialRefusal (table_of sheet.now) column.old p.0 q.0 (refused result) }
-    ensures finding { IfOk result (λ f. Found (table_of sheet.now) (charge model.now) (put column.old p.0 q.0) (failure_of f)) }
+    ensures finding { IfOk result (λ f. Found (table_of sheet.now) (M.charge model.now) (put column.old p.0 q.0) (failure_of f)) }
 {
     row_at(sheet, column, p)?;
     let at = p.0 as usize - 1;

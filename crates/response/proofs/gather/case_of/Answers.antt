@@ -1,10 +1,10 @@
-use Rattle.std.proofs.Common.{◌≡◌, ℕ, List, Err, sym, refl, ap, ◌∙◌, subst, arith}
+use Rattle.std.proofs.Common.{Err, sym, refl, ap, ◌∙◌, subst, arith}
 use Rattle.std.proofs.lemmas.Result.{err_from_is_err_and}
 use Rattle.names.specs.Timings.{timing_of}
 use Rattle.sheet.specs.Views.{table_of}
 use Rattle.theory.specs.Equations.{Question, question}
 use Rattle.theory.proofs.Entries.{entry_at}
-use Rattle.response.specs.Gathering.{charges_in, Cased}
+use Rattle.response.specs.Gathering.{Cased}
 use Rattle.response.proofs.Casing.{cased}
 use Rattle.response.proofs.Gathering.{dear_judged, dear_join}
 use Rattle.response.proofs.gather.case_of.Goals as goal

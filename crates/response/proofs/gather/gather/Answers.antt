@@ -6,7 +6,7 @@ use Rattle.response.specs.declared.source.Interference.{Interference}
 use Rattle.response.specs.Gathering.{charges_in, Gathered}
 use Rattle.response.proofs.Gathering.{gather_skip, gather_more}
 use Rattle.response.proofs.gather.gather.Goals as goal
-use Rattle.response.proofs.gather.gather.Goals.{in-Some+else-charge-eq-TOO_MUCH, in-default}
+use Rattle.response.proofs.gather.gather.Goals.{in-Some+else-charge-eq-TOO_MUCH, in_default}
 
 pub loop-j-preserved : goal.loop-j-preserved
 loop-j-preserved g c =
@@ -20,8 +20,8 @@ loop-j-preserved g c =
             (ap (λ (n : ℕ). (timing_of w.in-Some.row.timing).c + n) w.charge_of-charge.ensures) w.push.ensures.more c.loop-j.invariant.0,
         omega (arith, w.push.ensures.len),
       )
-      | in-default w ↦ subst Next (sym w.found-is) (
-        gather_skip rows charge c.args.from c.loop-j.j c.loop-j.found w.in-default.ensures.value c.loop-j.invariant.0,
+      | in_default w ↦ subst Next (sym w.found-is) (
+        gather_skip rows charge c.args.from c.loop-j.j c.loop-j.found w.in_default.ensures.value c.loop-j.invariant.0,
         omega arith,
       )
     ]

@@ -1,8 +1,7 @@
-use Rattle.std.proofs.Common.{Err, Option, sym, ap, ◌∙◌, subst, rules}
+use Rattle.std.proofs.Common.{Err, sym, ap, ◌∙◌, subst, rules}
 use Rattle.std.proofs.lemmas.Result.{err_from_is_err_and}
 use Rattle.names.specs.Refusals.{refused}
 use Rattle.sheet.specs.Views.{table_of}
-use Rattle.theory.specs.Figures.{Fault}
 use Rattle.theory.specs.Tests.{RowRefusal}
 use Rattle.response.proofs.Testing.{refused_row, refused_misfit}
 use Rattle.response.proofs.tests.row_test.Goals as goal

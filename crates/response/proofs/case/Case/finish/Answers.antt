@@ -1,4 +1,4 @@
-use Rattle.std.proofs.Common.{◌≡◌, ◌+◌, sym, ◌∙◌, arith}
+use Rattle.std.proofs.Common.{◌≡◌, ◌+◌, arith}
 use Rattle.theory.proofs.Jobs.{finish_warm, finish_below}
 use Rattle.theory.proofs.Solutions.{climb_to, climb_least}
 use Rattle.response.specs.Cases.{own_timing, equations_of}
