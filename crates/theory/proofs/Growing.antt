@@ -4,7 +4,7 @@ use borrow.Author.Tests.{eqb-false}
 use Rattle.theory.specs.Figures.{Timing, Figures, Table, Fault, is_row, priorities, within}
 use Rattle.theory.specs.Edits.{Edit, enter, strike, limit, unless, refusal, capped, left_by}
 use Rattle.theory.specs.History.{Uncapped, LastCap, Stands}
-use Rattle.theory.proofs.Standing.{Row_is}
+use Rattle.theory.proofs.Standing.{RowIs}
 
 pub split : (j n : ℕ) → j < n + 1 → (j ≡ n) ⊎ (j < n)
 split j n l = eq-or-lt_of_le (le_of_suc-le-suc (subst (λ (m : ℕ). j < m) (add-one n) l))
@@ -50,12 +50,12 @@ module _ (A : ℕ → Edit → Type 0) (n : ℕ) (B : ℕ → Edit → Type 0) (
         capped = cap_carried s.place f.limit s.capped;
       }
 
-row_carried : (A : ℕ → Edit → Type 0) (n : ℕ) (B : ℕ → Edit → Type 0) (m p : ℕ) → Carries A n B m p → Carries B m A n p → (o : Option Figures) → Row_is A n p o → Row_is B m p o
+row_carried : (A : ℕ → Edit → Type 0) (n : ℕ) (B : ℕ → Edit → Type 0) (m p : ℕ) → Carries A n B m p → Carries B m A n p → (o : Option Figures) → RowIs A n p o → RowIs B m p o
 row_carried A n B m p to back None h = λ f s. h f (stands_carried B m A n p back to f s)
 row_carried A n B m p to back (Some f) h = stands_carried A n B m p to back f h
 
 -- one place more at which p is not named
-pub row_quiet : (A : ℕ → Edit → Type 0) (n p : ℕ) → Quiet A n p → (o : Option Figures) → Row_is A n p o → Row_is A (n + 1) p o
+pub row_quiet : (A : ℕ → Edit → Type 0) (n p : ℕ) → Quiet A n p → (o : Option Figures) → RowIs A n p o → RowIs A (n + 1) p o
 row_quiet A n p quiet =
     row_carried A n A (n + 1) p (λ j e h l a. (omega arith, a))
     (λ j e h l a. (⊎_elim (λ eq. absurd (quiet e (subst (λ (k : ℕ). A k e) eq a) h)) (λ lt. lt) (split j n l), a))
@@ -112,9 +112,9 @@ module _ (A : ℕ → Edit → Type 0) (n : ℕ) (x : Edit) (here : A n x) (only
   quiet q apart = λ e a h. apart (ap named (sym (only e a)) ∙ h)
 
 -- one row put, and the others quiet
-row_put : (A : ℕ → Edit → Type 0) (n p : ℕ) (new : Option Figures) (rows : Table) → Row_is A (n + 1) p new →
-    ((q : ℕ) → Row_is A n q (rows q)) → ((q : ℕ) → (p ≡ q → ⊥) → Quiet A n q) → (q : ℕ) (b : Bool) → eqb q p ≡ b → Row_is A (n + 1) q (cond b new (rows q))
-row_put A n p new rows here was others q true e = subst (λ (k : ℕ). Row_is A (n + 1) k new) (sym (eqb-true q p e)) here
+row_put : (A : ℕ → Edit → Type 0) (n p : ℕ) (new : Option Figures) (rows : Table) → RowIs A (n + 1) p new →
+    ((q : ℕ) → RowIs A n q (rows q)) → ((q : ℕ) → (p ≡ q → ⊥) → Quiet A n q) → (q : ℕ) (b : Bool) → eqb q p ≡ b → RowIs A (n + 1) q (cond b new (rows q))
+row_put A n p new rows here was others q true e = subst (λ (k : ℕ). RowIs A (n + 1) k new) (sym (eqb-true q p e)) here
 row_put A n p new rows here was others q false e = row_quiet A n q (others q (λ k. eqb-false q p e (sym k))) (rows q) (was q)
 
 never_none : (b : Bool) (x y : Fault) → cond b (Some x) (Some y) ≡ None → ⊥
@@ -122,13 +122,13 @@ never_none true x y h = let z : ◌≡◌ {A = ℕ} 0 1 = cc in omega arith
 never_none false x y h = let z : ◌≡◌ {A = ℕ} 0 1 = cc in omega arith
 
 row_capped : (A : ℕ → Edit → Type 0) (n p k : ℕ) → A n (limit p k) → ((y : Edit) → A n y → y ≡ limit p k) → (o : Option Figures) →
-    unless (within priorities p) 2 p (unless (is_row o) 6 p (unless (within p k) 7 p None)) ≡ None → Row_is A n p o → Row_is A (n + 1) p (capped k o)
+    unless (within priorities p) 2 p (unless (is_row o) 6 p (unless (within p k) 7 p None)) ≡ None → RowIs A n p o → RowIs A (n + 1) p (capped k o)
 row_capped A n p k here only None r h = absurd (never_none (within priorities p) _ _ r)
 row_capped A n p k here only (Some f) r h = stands_cap A n (limit p k) here only p k refl f h
 
 -- the rows after an accepted edit
 pub rows_granted : (A : ℕ → Edit → Type 0) (n : ℕ) (x : Edit) → A n x → ((y : Edit) → A n y → y ≡ x) → (rows : Table) → refusal x rows ≡ None →
-    ((q : ℕ) → Row_is A n q (rows q)) → (q : ℕ) → Row_is A (n + 1) q (left_by x rows q)
+    ((q : ℕ) → RowIs A n q (rows q)) → (q : ℕ) → RowIs A (n + 1) q (left_by x rows q)
 rows_granted A n (enter p w) here only rows e was q =
     row_put A n p (Some (record { timing = w; limit = 1 })) rows (stands_enter A n (enter p w) here only p w refl) was
     (quiet A n (enter p w) here only) q (eqb q p) refl
@@ -143,5 +143,5 @@ rows_granted A n (limit p k) here only rows e was q =
 abbrev pub Agree : (A B : ℕ → Edit → Type 0) → ℕ → Type 0
 Agree A B n = (j : ℕ) (e : Edit) → j < n → A j e → B j e
 
-pub row_over : (A B : ℕ → Edit → Type 0) (n : ℕ) → Agree A B n → Agree B A n → (p : ℕ) (o : Option Figures) → Row_is A n p o → Row_is B n p o
+pub row_over : (A B : ℕ → Edit → Type 0) (n : ℕ) → Agree A B n → Agree B A n → (p : ℕ) (o : Option Figures) → RowIs A n p o → RowIs B n p o
 row_over A B n to back p = row_carried A n B n p (λ j e h l a. (l, to j e l a)) (λ j e h l b. (l, back j e l b))

@@ -5,7 +5,7 @@ use Rattle.std.specs.List.{slice_get}
 use Rattle.theory.specs.Figures.{Figures, Table, Fault, after}
 use Rattle.theory.specs.Edits.{Edit, refusal, left_by, Edited}
 use Rattle.theory.specs.History.{Accepted, Told, Answered, History}
-use Rattle.theory.proofs.Standing.{Row_is, told_at, row_told, accepted_one}
+use Rattle.theory.proofs.Standing.{RowIs, told_at, row_told, accepted_one}
 use Rattle.theory.proofs.Growing.{split, rows_granted, row_quiet, row_over}
 
 -- one call made: an edit, or a call that leaves every row as it was
@@ -17,7 +17,7 @@ Made None rows a rows' = (q : ℕ) → rows' q ≡ rows q
 pub record SoFar (calls : List (Option Edit)) (n : ℕ) (answers : List (Option Fault)) (rows : Table) : Type 0 where
   pub sizes : length answers ≡ n
   pub each : (m : ℕ) → m < n → Answered calls answers m
-  pub last : (p : ℕ) → Row_is (Accepted calls answers) n p (rows p)
+  pub last : (p : ℕ) → RowIs (Accepted calls answers) n p (rows p)
 
 nth_front : {X : Type 0} (xs ys : List X) (j : ℕ) → j < length xs → slice_get (xs ++ ys) j ≡ slice_get xs j
 nth_front [] ys j h = absurd (not-suc-le-zero h)
@@ -28,7 +28,7 @@ nth_last : {X : Type 0} (xs : List X) (y : X) → slice_get (xs ++ y ∷ []) (le
 nth_last [] y = refl
 nth_last (x ∷ xs) y = nth_last xs y
 
-told : (calls : List (Option Edit)) (answers : List (Option Fault)) (n : ℕ) (rows : Table) → ((p : ℕ) → Row_is (Accepted calls answers) n p (rows p)) → Told (Accepted calls answers) n rows
+told : (calls : List (Option Edit)) (answers : List (Option Fault)) (n : ℕ) (rows : Table) → ((p : ℕ) → RowIs (Accepted calls answers) n p (rows p)) → Told (Accepted calls answers) n rows
 told calls answers n rows h = λ p f. told_at (Accepted calls answers) (accepted_one calls answers) n p (rows p) (h p) f
 
 module _ (calls : List (Option Edit)) (n : ℕ) (answers : List (Option Fault)) (rows : Table) (x : Option Edit) (a : Option Fault)
@@ -45,22 +45,22 @@ module _ (calls : List (Option Edit)) (n : ℕ) (answers : List (Option Fault)) 
   kept_at : (j : ℕ) → j < n → slice_get longer j ≡ slice_get answers j
   kept_at j l = nth_front answers (a ∷ []) j (omega (arith, so.sizes))
 
-  over : (m : ℕ) → m < n + 1 → (p : ℕ) (o : Option Figures) → Row_is (Accepted calls answers) m p o → Row_is B m p o
+  over : (m : ℕ) → m < n + 1 → (p : ℕ) (o : Option Figures) → RowIs (Accepted calls answers) m p o → RowIs B m p o
   over m lm =
       row_over (Accepted calls answers) B m (λ j e l h. record { call = h.call; granted = kept_at j (omega arith) ∙ h.granted })
       (λ j e l h. record { call = h.call; granted = sym (kept_at j (omega arith)) ∙ h.granted })
 
-  rows_before : (q : ℕ) → Row_is B n q (rows q)
+  rows_before : (q : ℕ) → RowIs B n q (rows q)
   rows_before q = over n (omega arith) q (rows q) (so.last q)
 
   -- where the call is no accepted edit, every row stands as it did
-  rows_kept : ((e : Edit) → B n e → ⊥) → (q : ℕ) → Row_is B (n + 1) q (rows q)
+  rows_kept : ((e : Edit) → B n e → ⊥) → (q : ℕ) → RowIs B (n + 1) q (rows q)
   rows_kept never q = row_quiet B n q (λ e h k. never e h) (rows q) (rows_before q)
 
 -- the rows after an edit, by its answer
 rows_edited : (calls : List (Option Edit)) (n : ℕ) (answers : List (Option Fault)) (rows : Table) (e : Edit) (a : Option Fault) →
     SoFar calls n answers rows → slice_get calls n ≡ Some (Some e) → a ≡ refusal e rows →
-    (q : ℕ) → Row_is (Accepted calls (answers ++ a ∷ [])) (n + 1) q (after a (left_by e rows) rows q)
+    (q : ℕ) → RowIs (Accepted calls (answers ++ a ∷ [])) (n + 1) q (after a (left_by e rows) rows q)
 rows_edited calls n answers rows e None so next right q =
     let given = answered_at calls n answers rows (Some e) None so next in
     rows_granted (Accepted calls (answers ++ None ∷ [])) n e (record { call = next; granted = given })
@@ -72,12 +72,12 @@ rows_edited calls n answers rows e (Some f) so next right q =
 
 rows_made : (calls : List (Option Edit)) (n : ℕ) (answers : List (Option Fault)) (rows : Table) (x : Option Edit) (a : Option Fault) (rows' : Table) →
     SoFar calls n answers rows → slice_get calls n ≡ Some x → Made x rows a rows' →
-    (q : ℕ) → Row_is (Accepted calls (answers ++ a ∷ [])) (n + 1) q (rows' q)
+    (q : ℕ) → RowIs (Accepted calls (answers ++ a ∷ [])) (n + 1) q (rows' q)
 rows_made calls n answers rows None a rows' so next made q =
-    subst (λ (o : Option Figures). Row_is (Accepted calls (answers ++ a ∷ [])) (n + 1) q o) (sym (made q))
+    subst (λ (o : Option Figures). RowIs (Accepted calls (answers ++ a ∷ [])) (n + 1) q o) (sym (made q))
     (rows_kept calls n answers rows None a so next (λ y h. let k = h.call in let z : ◌≡◌ {A = ℕ} 0 1 = cc in omega arith) q)
 rows_made calls n answers rows (Some e) a rows' so next made q =
-    subst (λ (o : Option Figures). Row_is (Accepted calls (answers ++ a ∷ [])) (n + 1) q o) (sym (made.leaves q))
+    subst (λ (o : Option Figures). RowIs (Accepted calls (answers ++ a ∷ [])) (n + 1) q o) (sym (made.leaves q))
     (rows_edited calls n answers rows e a so next made.answered q)
 
 -- an edit at the place of the call is that call

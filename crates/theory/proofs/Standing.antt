@@ -14,9 +14,9 @@ figures_same : (f g : Figures) → f.timing ≡ g.timing → f.limit ≡ g.limit
 figures_same f g a b = λ i. record { timing = a i; limit = b i }
 
 -- o is the row at p before place n, or None where none stands
-abbrev pub Row_is : (ℕ → Edit → Type 0) → ℕ → ℕ → Option Figures → Type 0
-Row_is A n p None = (f : Figures) → Stands A n p f → ⊥
-Row_is A n p (Some f) = Stands A n p f
+abbrev pub RowIs : (ℕ → Edit → Type 0) → ℕ → ℕ → Option Figures → Type 0
+RowIs A n p None = (f : Figures) → Stands A n p f → ⊥
+RowIs A n p (Some f) = Stands A n p f
 
 module _ (A : ℕ → Edit → Type 0) (one : (j : ℕ) (x y : Edit) → A j x → A j y → x ≡ y) (n p : ℕ) where
   lastcap_same : (i k l : ℕ) → LastCap A i n p k → LastCap A i n p l → k ≡ l
@@ -47,21 +47,21 @@ module _ (A : ℕ → Edit → Type 0) (one : (j : ℕ) (x y : Edit) → A j x �
       (λ lt. absurd (t.no_enter s.place f.timing lt s.before s.accepted)))
       (order s.place t.place)
 
-  row_exact : (o : Option Figures) → Row_is A n p o → (f : Figures) → Stands A n p f → o ≡ Some f
+  row_exact : (o : Option Figures) → RowIs A n p o → (f : Figures) → Stands A n p f → o ≡ Some f
   row_exact None h f s = absurd (h f s)
   row_exact (Some g) h f s = ap Some (stands_same g f h s)
 
-  pub row_one : (o u : Option Figures) → Row_is A n p o → Row_is A n p u → o ≡ u
+  pub row_one : (o u : Option Figures) → RowIs A n p o → RowIs A n p u → o ≡ u
   row_one None None h k = refl
   row_one None (Some g) h k = absurd (h g k)
   row_one (Some f) None h k = absurd (k f h)
   row_one (Some f) (Some g) h k = ap Some (stands_same f g h k)
 
-  pub told_at : (o : Option Figures) → Row_is A n p o → (f : Figures) → (o ≡ Some f → Stands A n p f) × (Stands A n p f → o ≡ Some f)
-  told_at o h f = (λ e. subst (λ (u : Option Figures). Row_is A n p u) e h, row_exact o h f)
+  pub told_at : (o : Option Figures) → RowIs A n p o → (f : Figures) → (o ≡ Some f → Stands A n p f) × (Stands A n p f → o ≡ Some f)
+  told_at o h f = (λ e. subst (λ (u : Option Figures). RowIs A n p u) e h, row_exact o h f)
 
 -- a sheet that is told has at each priority the row that stands there
-pub row_told : (A : ℕ → Edit → Type 0) (n p : ℕ) (o : Option Figures) → ((f : Figures) → (o ≡ Some f → Stands A n p f) × (Stands A n p f → o ≡ Some f)) → Row_is A n p o
+pub row_told : (A : ℕ → Edit → Type 0) (n p : ℕ) (o : Option Figures) → ((f : Figures) → (o ≡ Some f → Stands A n p f) × (Stands A n p f → o ≡ Some f)) → RowIs A n p o
 row_told A n p None h = λ f s. let e : None ≡ Some f = (h f).1 s in let z : ◌≡◌ {A = ℕ} 0 1 = cc in omega arith
 row_told A n p (Some f) h = (h f).0 refl
 
