@@ -1,9 +1,10 @@
 -- The bits of words: of `&`, `|`, `!` and `<<`, how many are set, and which is the lowest.
-use Rattle.std.proofs.Common.{◌≡◌, ℕ, zero, suc, ◌-◌, ◌/◌, ◌%◌, ◌^◌, ◌<◌, min, max, Bool, true, false, cond, not, ◌&&◌, ◌||◌, eqb, sym, ap, ◌∙◌, ⊎_elim, pow-suc, div-one, add-one, one-add, arith}
+use Rattle.std.proofs.Common.{◌≡◌, ℕ, zero, suc, ◌-◌, ◌/◌, ◌%◌, ◌^◌, ◌<◌, min, max, Bool, true, false, cond, not, ◌&&◌, ◌||◌, eqb, refl, sym, ap, ap₂, ◌∙◌, ⊎_elim, pow-suc, div-one, add-one, one-add, arith}
+use mathlib.Core.Bool.{and-true}
 use lib.Bits.{bit_and, bit_or, and_step, or_step, and_shr, or_shr, and_mask}
 use lib.Count.{ones, ones_step, ones-le, count_trailing_zeros}
 use Rattle.std.proofs.lemmas.Nat.{shr_le, shr-shr, shr_below}
-use Rattle.std.proofs.lemmas.Bool.{cases_lt}
+use Rattle.std.proofs.lemmas.Bool.{and_left, cases_lt}
 use Rattle.std.proofs.lemmas.Bool.Decides.{nat_tests}
 use Rattle.theory.specs.Sets.{count_below}
 use Rattle.theory.proofs.Counting.{count_first, count_same}
@@ -53,6 +54,10 @@ bit_pow (suc k) zero =
 bit_pow (suc k) (suc t) =
     let half : 2 ^ suc k / 2 ≡ 2 ^ k = omega (arith, pow-suc 2 k) in
     sym (bit_half (2 ^ suc k) t) ∙ ap (λ (m : ℕ). bit m t) half ∙ bit_pow k t ∙ grind (arith, nat_tests)
+
+and_self : (v : Bool) → (v && v) ≡ v
+and_self true = refl
+and_self false = refl
 
 -- the bits of `!n` in a word of w bits
 pub bit_not : (w n t : ℕ) → n < 2 ^ w → t < w → bit ((2 ^ w - 1) - n) t ≡ not (bit n t)
@@ -120,4 +125,37 @@ lowest (suc w) n fits some =
     let rest = lowest w (n / 2) small (λ none. some (omega arith)) in
     rw zero-digit (lowest_even w n (count_trailing_zeros w (n / 2)) zero-digit rest))
     (λ odd. let one-digit : n % 2 ≡ 1 = omega arith in rw one-digit (lowest_odd w n one-digit))
+    (cases_lt (n % 2) 1)
+
+pop_odd : (n u : ℕ) → n % 2 ≡ 1 → bit (bit_and n (n - 1)) u ≡ (bit n u && not (eqb u 0))
+pop_odd n zero odd =
+    let even : (n - 1) % 2 ≡ 0 = omega arith in
+    bit-and n (n - 1) 0 ∙ ap (λ (v : Bool). bit n 0 && v) (bit_low (n - 1) ∙ ap (λ (m : ℕ). eqb m 1) even)
+pop_odd n (suc u) odd =
+    let half : (n - 1) / 2 ≡ n / 2 = omega arith in
+    let far : eqb (suc u) 0 ≡ false = grind (arith, nat_tests) in
+    bit-and n (n - 1) (suc u) ∙ ap (λ (v : Bool). bit n (suc u) && v) (sym (bit_half (n - 1) u) ∙ ap (λ (m : ℕ). bit m u) half ∙ bit_half n u) ∙ and_self (bit n (suc u))
+    ∙ sym (rw far (and-true (bit n (suc u))))
+
+pop_even : (n t u : ℕ) → n % 2 ≡ 0 → 0 < n → ((u : ℕ) → bit (bit_and (n / 2) (n / 2 - 1)) u ≡ (bit (n / 2) u && not (eqb u t))) → bit (bit_and n (n - 1)) u ≡ (bit n u && not (eqb u (suc t)))
+pop_even n t zero even some rest =
+    let none : bit n 0 ≡ false = bit_low n ∙ ap (λ (m : ℕ). eqb m 1) even in
+    bit-and n (n - 1) 0 ∙ and_left _ _ none ∙ sym (and_left _ _ none)
+pop_even n t (suc u) even some rest =
+    let half : (n - 1) / 2 ≡ n / 2 - 1 = omega arith in
+    let turn : eqb u t ≡ eqb (suc u) (suc t) = grind (arith, nat_tests) in
+    bit-and n (n - 1) (suc u) ∙ ap₂ ◌&&◌ (sym (bit_half n u)) (sym (bit_half (n - 1) u) ∙ ap (λ (m : ℕ). bit m u) half)
+    ∙ sym (bit-and (n / 2) (n / 2 - 1) u) ∙ rest u ∙ ap₂ (λ (v w : Bool). v && not w) (bit_half n u) turn
+
+-- `n & (n - 1)` leaves out the lowest set bit
+pub pop : (w n : ℕ) → n < 2 ^ w → (n ≡ 0 → ⊥) → (u : ℕ) → bit (bit_and n (n - 1)) u ≡ (bit n u && not (eqb u (count_trailing_zeros w n)))
+unfolding count_trailing_zeros
+pop zero n fits some u = absurd (some (omega arith))
+pop (suc w) n fits some u =
+    ⊎_elim
+    (λ even.
+    let zero-digit : n % 2 ≡ 0 = omega arith in
+    let small : n / 2 < 2 ^ w = omega (arith, pow-suc 2 w) in
+    rw zero-digit (pop_even n (count_trailing_zeros w (n / 2)) u zero-digit (omega arith) (pop w (n / 2) small (λ none. some (omega arith)))))
+    (λ odd. let one-digit : n % 2 ≡ 1 = omega arith in rw one-digit (pop_odd n u one-digit))
     (cases_lt (n % 2) 1)

@@ -1,16 +1,22 @@
 -- Sets of cache sets in four words.
-use Rattle.std.proofs.Common.{◌≡◌, ℕ, zero, suc, ◌+◌, ◌-◌, ◌*◌, ◌/◌, ◌%◌, ◌^◌, ◌<◌, ◌≤◌, Bool, true, false, not, ◌&&◌, ◌||◌, eqb, List, [], ◌∷◌, ◌++◌, length, get_or, take, set, Some, sym, refl, ap, ◌∙◌, ap₂, ⊎_elim, arith, get_or-set_other, get_or-set_same}
+use Rattle.std.proofs.Common.{◌≡◌, ℕ, zero, suc, ◌+◌, ◌-◌, ◌*◌, ◌/◌, ◌%◌, ◌^◌, ◌<◌, ◌≤◌, Bool, true, false, not, ◌&&◌, ◌||◌, eqb, List, [], ◌∷◌, ◌++◌, length, get_or, take, set, Some, None, Option, sym, refl, ap, ◌∙◌, ap₂, ⊎_elim, arith, add-one, take_all, get_or-set_other, get_or-set_same}
 use mathlib.Core.Bool.{or_comm}
 use lib.Bits.{bit_and, bit_or}
-use lib.Count.{ones, count_trailing_zeros}
-use Rattle.std.proofs.lemmas.Nat.{and_le_l, div-mul-add, mod-mul-add, one_shl}
-use Rattle.std.proofs.lemmas.List.{take_more}
+use lib.Count.{count_trailing_zeros}
+use Rattle.std.proofs.lemmas.Nat.{div-mul-add, mod-mul-add, one_shl}
+use Rattle.std.proofs.lemmas.List.Sums.{sum_by_more}
+use Rattle.std.specs.Array.{AllOfLen}
+use Rattle.std.specs.List.{sum_by}
 use Rattle.std.proofs.lemmas.Bool.{and_parts, cases_lt, cases_eq, ne_eqb, not-true}
 use Rattle.std.proofs.lemmas.Bool.Decides.{nat_tests}
 use Rattle.theory.specs.Sets.{Sets, SameSets, Inside, FirstOutside, cache_sets, count_below, size, union, intersection}
-use Rattle.theory.proofs.Counting.{count_part, count_same}
+use Rattle.theory.proofs.Counting.{count-le, count_part, count_same}
 use Rattle.blocks.specs.Members.{all_sets, bit, in_words, listed, no_sets, plus}
-use Rattle.blocks.proofs.Bitwise.{bit-and, bit-or, bit_not, bit_pow, bit_zero, lowest, ones_count}
+use Rattle.blocks.proofs.Bitwise.{bit-and, bit-or, bit_not, bit_pow, bit_zero, lowest}
+
+-- how many bits of a word are set
+abbrev pub set_bits : ℕ → ℕ
+set_bits n = count_below (bit n) 64
 
 -- the word of a set is one of four
 pub four : (P : ℕ → Type 0) → P 0 → P 1 → P 2 → P 3 → (q : ℕ) → q < 4 → P q
@@ -34,29 +40,43 @@ in_word : (words : List ℕ) (q t : ℕ) → t < 64 → in_words words (q * 64 +
 unfolding in_words
 in_word words q t l = ap₂ (λ (k u : ℕ). bit (get_or words k 0) u) (div-mul-add q 64 t l) (mod-mul-add q 64 t l)
 
--- the sets of word q, counted
-count_word : (words : List ℕ) (q : ℕ) → get_or words q 0 < 2 ^ 64 → count_below (in_words words) (q * 64 + 64) ≡ count_below (in_words words) (q * 64) + ones (get_or words q 0)
-count_word words q fits =
-    let counted = ones_count 64 (get_or words q 0) fits ∙ count_same (bit (get_or words q 0)) (λ t. in_words words (q * 64 + t)) 64 (λ t l. sym (in_word words q t l)) in
-    count_part (in_words words) (q * 64) 64 ∙ ap (λ (n : ℕ). count_below (in_words words) (q * 64) + n) (sym counted)
-
 count_none : (x : Sets) → count_below x 0 ≡ 0
 unfolding count_below
 count_none x = refl
 
-module _ (words : List ℕ) (a : get_or words 0 0 < 2 ^ 64) (b : get_or words 1 0 < 2 ^ 64) (c : get_or words 2 0 < 2 ^ 64) (d : get_or words 3 0 < 2 ^ 64) where
-  pub size_words : size (in_words words) ≡ ones (get_or words 0 0) + ones (get_or words 1 0) + ones (get_or words 2 0) + ones (get_or words 3 0)
-  size_words =
-      omega (arith, count_none (in_words words), count_word words 0 a, count_word words 1 b, count_word words 2 c, count_word words 3 d)
+module _ (words : List ℕ) where
+  -- the sets of word q, counted
+  count_word : (q : ℕ) → count_below (in_words words) (q * 64 + 64) ≡ count_below (in_words words) (q * 64) + set_bits (get_or words q 0)
+  count_word q =
+      let counted = count_same (bit (get_or words q 0)) (λ t. in_words words (q * 64 + t)) 64 (λ t l. sym (in_word words q t l)) in
+      count_part (in_words words) (q * 64) 64 ∙ ap (λ (n : ℕ). count_below (in_words words) (q * 64) + n) (sym counted)
 
-pub zero_words : (words : List ℕ) → ((q : ℕ) → q < 4 → get_or words q 0 ≡ 0) → SameSets (in_words words) no_sets
+  -- those of the first n words
+  count_words : (n : ℕ) → n ≤ length words → count_below (in_words words) (n * 64) ≡ sum_by set_bits (take n words)
+  count_words zero l = count_none (in_words words)
+  count_words (suc n) l =
+      let place : suc n * 64 ≡ n * 64 + 64 = omega arith in
+      let before = count_words n (omega arith) in
+      ap (count_below (in_words words)) place ∙ count_word n ∙ ap (λ (m : ℕ). m + set_bits (get_or words n 0)) before
+      ∙ sym (sum_by_more set_bits words n 0 l) ∙ ap (λ (m : ℕ). sum_by set_bits (take m words)) (add-one n)
+
+  pub size_words : length words ≡ 4 → size (in_words words) ≡ sum_by set_bits words
+  size_words all = count_words 4 (omega arith) ∙ ap (sum_by set_bits) (take_all 4 words (omega arith))
+
+pub bits_fit : (words : List ℕ) → length words ≡ 4 → sum_by set_bits words < 2 ^ 32
+bits_fit words all = omega (arith, size_words words all, count-le (in_words words) cache_sets)
+
+-- a word four times
+same_words : (words : List ℕ) (n : ℕ) → ((q : ℕ) → q < 4 → get_or words q 0 ≡ n) → (s : ℕ) → s < cache_sets → in_words words s ≡ bit n (s % 64)
 unfolding in_words
-zero_words words each s l = ap (λ (n : ℕ). bit n (s % 64)) (each (s / 64) (omega arith)) ∙ bit_zero (s % 64)
+same_words words n each s l = ap (λ (m : ℕ). bit m (s % 64)) (each (s / 64) (omega arith))
+
+pub zero_words : (words : List ℕ) → AllOfLen (λ n. n ≡ 0) words 4 → SameSets (in_words words) no_sets
+zero_words words zeros s l = same_words words 0 (λ q lq. zeros.at q 0 lq) s l ∙ bit_zero (s % 64)
 
 pub full_words : (words : List ℕ) → ((q : ℕ) → q < 4 → get_or words q 0 ≡ 2 ^ 64 - 1) → SameSets (in_words words) all_sets
-unfolding in_words
 full_words words each s l =
-    ap (λ (n : ℕ). bit n (s % 64)) (each (s / 64) (omega arith)) ∙ bit_not 64 0 (s % 64) (omega arith) (omega arith) ∙ ap not (bit_zero (s % 64))
+    same_words words (2 ^ 64 - 1) each s l ∙ bit_not 64 0 (s % 64) (omega arith) (omega arith) ∙ ap not (bit_zero (s % 64))
 
 -- one bit more
 pub with_bit : (words : List ℕ) (s : ℕ) → length words ≡ 4 → s < cache_sets → SameSets (in_words (set words (s / 64) (bit_or (get_or words (s / 64) 0) (1 * 2 ^ (s % 64) % 2 ^ 64)))) (plus (in_words words) s)
@@ -89,13 +109,15 @@ listed_push (y ∷ ys) x s =
     ap (λ (v : Bool). eqb s y || v) (listed_push ys x s) ∙ or_turn (eqb s y) (eqb s x) (listed ys s)
 
 -- one listed set more
-pub listed_more : (xs : List ℕ) (k s : ℕ) → k < length xs → listed (take (k + 1) xs) s ≡ (eqb s (get_or xs k 0) || listed (take k xs) s)
-listed_more xs k s l = ap (λ (ys : List ℕ). listed ys s) (take_more xs k 0 l) ∙ listed_push (take k xs) (get_or xs k 0) s
+pub listed_more : (x y : Sets) (xs : List ℕ) (k : ℕ) → SameSets y (plus x k) → SameSets x (listed xs) → SameSets y (listed (xs ++ (k ∷ [])))
+listed_more x y xs k more before s l = more s l ∙ ap (λ (v : Bool). eqb s k || v) (before s l) ∙ sym (listed_push xs k s)
 
--- what `a & !b` leaves
-outside_bit : (a b t : ℕ) → b < 2 ^ 64 → t < 64 → bit (bit_and a ((2 ^ 64 - 1) - b)) t ≡ (bit a t && not (bit b t))
-outside_bit a b t fits l =
-    bit-and a ((2 ^ 64 - 1) - b) t ∙ ap (λ (v : Bool). bit a t && v) (bit_not 64 b t fits l)
+abbrev pub difference : Sets → Sets → Sets
+difference x y s = x s && not (y s)
+
+pub difference_words : (words xs ys : List ℕ) → ((q : ℕ) → q < 4 → (t : ℕ) → t < 64 → bit (get_or words q 0) t ≡ (bit (get_or xs q 0) t && not (bit (get_or ys q 0) t))) → SameSets (in_words words) (difference (in_words xs) (in_words ys))
+unfolding in_words
+difference_words words xs ys each s l = each (s / 64) (omega arith) (s % 64) (omega arith)
 
 inside_bit : (v w : Bool) → v ≡ true → (v && not w) ≡ false → w ≡ true
 inside_bit true true e f = refl
@@ -103,32 +125,41 @@ inside_bit true false e f = sym f
 inside_bit false true e f = refl
 inside_bit false false e f = e
 
-module _ (xs ys : List ℕ) (q : ℕ) (fits : get_or ys q 0 < 2 ^ 64) where
-  abbrev left_over : ℕ
-  left_over = bit_and (get_or xs q 0) ((2 ^ 64 - 1) - get_or ys q 0)
+-- no set is in the first n words
+none_to : (words : List ℕ) (n : ℕ) → ((q : ℕ) → q < n → get_or words q 0 ≡ 0) → (s : ℕ) → s < n * 64 → in_words words s ≡ false
+unfolding in_words
+none_to words n each s l = ap (λ (m : ℕ). bit m (s % 64)) (each (s / 64) (omega arith)) ∙ bit_zero (s % 64)
 
-  left_bit : (t : ℕ) → t < 64 → bit left_over t ≡ (in_words xs (q * 64 + t) && not (in_words ys (q * 64 + t)))
-  left_bit t l =
-      outside_bit (get_or xs q 0) (get_or ys q 0) t fits l
-      ∙ ap₂ (λ (v w : Bool). v && not w) (sym (in_word xs q t l)) (sym (in_word ys q t l))
+pub none_in : (words : List ℕ) → ((q : ℕ) → q < 4 → get_or words q 0 ≡ 0) → Inside cache_sets (in_words words) no_sets
+none_in words each s l here = sym (none_to words 4 each s l) ∙ here
 
-  -- bits that are not left over are in both words
-  pub inside_more : (n : ℕ) → n ≤ 64 → ((t : ℕ) → t < n → bit left_over t ≡ false) → Inside (q * 64) (in_words xs) (in_words ys) → Inside (q * 64 + n) (in_words xs) (in_words ys)
-  inside_more n few none before s l here =
-      ⊎_elim
-      (λ early. before s early here)
-      (λ late.
-      let t : ℕ = s - q * 64 in
-      let place : s ≡ q * 64 + t = omega arith in
-      let bare = sym (left_bit t (omega arith)) ∙ none t (omega arith) in
-      inside_bit (in_words xs s) (in_words ys s) here (rw place bare))
-      (cases_lt s (q * 64))
+module _ (words : List ℕ) (q : ℕ) (before : (k : ℕ) → k < q → get_or words k 0 ≡ 0) where
+  abbrev lowest_set : ℕ
+  lowest_set = count_trailing_zeros 64 (get_or words q 0)
 
-  -- the lowest bit that is left over
-  pub found_outside : q < 4 → get_or xs q 0 < 2 ^ 64 → (left_over ≡ 0 → ⊥) → Inside (q * 64) (in_words xs) (in_words ys) → FirstOutside (in_words xs) (in_words ys) (Some (q * 64 + count_trailing_zeros 64 left_over))
-  found_outside lq small some before =
-      let t : ℕ = count_trailing_zeros 64 left_over in
-      let found = lowest 64 left_over (omega (arith, and_le_l (get_or xs q 0) ((2 ^ 64 - 1) - get_or ys q 0))) some in
+  -- the lowest bit of the first word that is not 0
+  pub first_set : q < 4 → get_or words q 0 < 2 ^ 64 → (get_or words q 0 ≡ 0 → ⊥) → FirstOutside (in_words words) no_sets (Some (q * 64 + lowest_set))
+  first_set lq fits some =
+      let found = lowest 64 (get_or words q 0) fits some in
       let near = found.within in
-      let parts = and_parts _ _ (sym (left_bit t near) ∙ found.here) in
-      (omega arith, parts.0, not-true _ parts.1, inside_more t (omega arith) found.below before)
+      let none : (s : ℕ) → s < q * 64 + lowest_set → in_words words s ≡ false = λ s l.
+      ⊎_elim
+      (λ early. none_to words q before s early)
+      (λ late. let place : s ≡ q * 64 + (s - q * 64) = omega arith in rw place (in_word words q (s - q * 64) (omega arith) ∙ found.below (s - q * 64) (omega arith)))
+      (cases_lt s (q * 64)) in
+      (omega arith, in_word words q lowest_set near ∙ found.here, refl, λ s l here. sym (none s l) ∙ here)
+
+not_set : (v : Bool) → (v ≡ true → false ≡ true) → v ≡ false
+not_set true none = sym (none refl)
+not_set false none = refl
+
+module _ (x y d : Sets) (same : SameSets d (difference x y)) where
+  inside_from : (n : ℕ) → n ≤ cache_sets → Inside n d no_sets → Inside n x y
+  inside_from n few none s l here = inside_bit (x s) (y s) here (sym (same s (omega arith)) ∙ not_set (d s) (none s l))
+
+  -- what is first in the difference is first outside
+  pub outside_from : (r : Option ℕ) → FirstOutside d no_sets r → FirstOutside x y r
+  outside_from None none = inside_from cache_sets (omega arith) none
+  outside_from (Some s) found =
+      let parts = and_parts _ _ (sym (same s found.0) ∙ found.1) in
+      (found.0, parts.0, not-true _ parts.1, inside_from s (omega arith) found.3)

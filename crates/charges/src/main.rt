@@ -1,11 +1,12 @@
 // Prints what every delay model charges on a small sheet of two rows.
 #![tactic(auto)]
 
-use anyhow::anyhow;
+use anyhow::Context;
 use blocks::map::BlockMap;
 use blocks::sets::CacheSets;
 use delay::map_model::MapModel;
 use delay::model::{DelayModel, NoDelay};
+use delay::question::{Pair, Question};
 use delay::reckoning::Reckoning;
 use delay::switch::Switch;
 use delay::switch_cost::SwitchCost;
@@ -35,7 +36,15 @@ fn example_map() -> Result<BlockMap, Refusal> {
 
 // What each job of row 1 costs, while row 2 is judged without a blocker.
 fn charge(model: &impl DelayModel, column: &[u8]) -> u32 {
-    model.charge_of(Priority(2), 0, Priority(1), column)
+    let pair = Pair {
+        row: Priority(2),
+        blocker: None,
+    };
+    model.charge_of(&Question {
+        pair,
+        preempting: Priority(1),
+        column,
+    })
 }
 
 fn print_charges(
@@ -70,12 +79,8 @@ fn print_table(rt: &HostRuntime, map: BlockMap, cost: SwitchCost) -> io::Result<
 }
 
 fn run(rt: &HostRuntime) -> anyhow::Result<()> {
-    let Ok(map) = example_map() else {
-        return Err(anyhow!("the map is refused"));
-    };
-    let Ok(cost) = SwitchCost::new(1) else {
-        return Err(anyhow!("the switch cost is refused"));
-    };
+    let map = example_map().context("the map is refused")?;
+    let cost = SwitchCost::new(1).context("the switch cost is refused")?;
     print_table(rt, map, cost)?;
     Ok(())
 }

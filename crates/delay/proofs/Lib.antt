@@ -1,2 +1,3 @@
+pub mod Passing
 pub mod RowBits
 pub mod Unions

@@ -1,3 +1,4 @@
+pub mod Blockers
 pub mod RowSets
 pub mod Reckonings
 pub mod Keeping

@@ -3,6 +3,7 @@
 
 pub mod map_model;
 pub mod model;
+pub mod question;
 pub mod reckoning;
 pub mod rows;
 pub mod switch;

@@ -1,125 +1,75 @@
-ghost use Rattle.std.specs.Prelude.{◌≡◌, ℕ, ◌≤◌, false, List};
+ghost use Rattle.std.specs.Prelude.{◌≡◌, ℕ, false, List};
 ghost use Rattle.theory.specs.Delays.{affected, some_row};
-ghost use Rattle.theory.specs.Sets.{SameSets, largest, union_over};
-ghost use Rattle.theory.specs.Reckonings.{Sharper, lost_e, lost_u, lost_v, lost_x, reloads, up_to};
+ghost use Rattle.theory.specs.Reckonings.{Sharper, reloads};
 ghost use Rattle.blocks.specs.Members.{has};
 ghost use Rattle.blocks.specs.Views.{blocks_of};
 ghost use Rattle.delay.specs.Reckonings.{among_size, lost_by};
 ghost use Rattle.delay.specs.RowSets.{in_rows};
-ghost use Rattle.theory.proofs.Charging.{reloads_lawful};
-ghost use Rattle.delay.specs.Keeping.{keeps};
+ghost use Rattle.delay.specs.Keeping.{reckoned_lawful};
 
 use super::model::DelayModel;
+use super::question::Question;
 use super::reckoning::Reckoning;
-use super::rows::{RowSet, affected_rows, in_range};
+use super::rows::RowSet;
 use blocks::map::BlockMap;
 use blocks::sets::CacheSets;
-use names::{PRIORITIES, Priority};
+use names::Priority;
 
 /// Models E, U, V and X: the reload time of a block for each block that is lost by a reckoning, 0 where no row is
 /// affected.
 #[derive(Clone, Copy)]
 pub struct MapModel {
     pub reckoning: Reckoning,
+    // Owned, so that a model can be returned and kept, with no map to be kept alive beside it.
     pub map: BlockMap,
 }
 
-// The union of the useful sets of some rows.
-fn useful_union(map: &BlockMap, rows: RowSet) -> CacheSets
-    ensures { SameSets (has result) (union_over (in_rows rows) (blocks_of map.now).useful) }
-{
-    let mut all = CacheSets::empty();
-    for k in 1..=PRIORITIES {
-        if rows.contains(Priority(k)) {
-            all = all.union(&map.useful(Priority(k)));
-        }
-    }
-    all
-}
-
-// The union of the evicting sets of j and the rows above it.
-fn evicting_union(map: &BlockMap, j: Priority) -> CacheSets
-    requires { j.0 ≤ 32 }
-    ensures { SameSets (has result) (union_over (up_to j.0) (blocks_of map.now).evicting) }
-{
-    let mut all = CacheSets::empty();
-    for p in 1..j.0 + 1 {
-        all = all.union(&map.evicting(Priority(p)));
-    }
-    all
-}
-
-// The most useful sets that one of the rows has among some sets.
-fn largest_among(map: &BlockMap, rows: RowSet, sets: &CacheSets) -> u32
-    ensures { result ≡ largest (in_rows rows) (among_size (blocks_of map.now) (has sets.now)) }
-{
-    let mut most: u32 = 0;
-    for k in 1..=PRIORITIES {
-        if rows.contains(Priority(k)) {
-            most = most.max(map.useful(Priority(k)).intersection(sets).size());
-        }
-    }
-    most
-}
-
-// The blocks that are lost by each reckoning, with the affected rows given.
-fn evicting_only_lost(map: &BlockMap, j: Priority, rows: RowSet) -> u32
-    ensures { result ≡ lost_e (blocks_of map.now) j.0 (in_rows rows) }
-{
-    if rows.is_empty() {
-        0
-    } else {
-        map.evicting(j).size()
-    }
-}
-
-fn useful_only_lost(map: &BlockMap, j: Priority, rows: RowSet) -> u32
-    ensures { result ≡ lost_u (blocks_of map.now) j.0 (in_rows rows) }
-{
-    largest_among(map, rows, &CacheSets::full())
-}
-
-fn useful_union_lost(map: &BlockMap, j: Priority, rows: RowSet) -> u32
-    ensures { result ≡ lost_v (blocks_of map.now) j.0 (in_rows rows) }
-{
-    let useful = useful_union(map, rows);
-    useful.intersection(&map.evicting(j)).size()
-}
-
-fn evicting_union_lost(map: &BlockMap, j: Priority, rows: RowSet) -> u32
-    requires { j.0 ≤ 32 }
-    ensures { result ≡ lost_x (blocks_of map.now) j.0 (in_rows rows) }
-{
-    largest_among(map, rows, &evicting_union(map, j))
-}
-
 impl MapModel {
+    // The blocks that are lost, with the affected rows given.
     fn lost(&self, j: Priority, rows: RowSet) -> u32
-        requires { j.0 ≤ 32 }
         ensures { result ≡ lost_by self.now.reckoning (blocks_of self.now.map) j.0 (in_rows rows) }
     {
         match self.reckoning {
-            Reckoning::EvictingOnly => evicting_only_lost(&self.map, j, rows),
-            Reckoning::UsefulOnly => useful_only_lost(&self.map, j, rows),
-            Reckoning::UsefulUnion => useful_union_lost(&self.map, j, rows),
-            Reckoning::EvictingUnion => evicting_union_lost(&self.map, j, rows),
+            Reckoning::EvictingOnly => {
+                if rows.is_empty() {
+                    0
+                } else {
+                    self.map.evicting(j).size()
+                }
+            }
+            Reckoning::UsefulOnly => rows.largest(|k| self.map.useful(k).size()),
+            Reckoning::UsefulUnion => {
+                let useful = rows.union(|k| self.map.useful(k));
+                useful.intersection(&self.map.evicting(j)).size()
+            }
+            Reckoning::EvictingUnion => {
+                let evicting = RowSet::up_to(j).union(|p| self.map.evicting(p));
+                rows.largest(|k| self.useful_among(k, &evicting))
+            }
         }
+    }
+
+    // How many of row k's useful sets are among some sets.
+    fn useful_among(&self, k: Priority, sets: &CacheSets) -> u32
+        ensures { result ≡ among_size (blocks_of self.now.map) (has sets.now) k.0 }
+    {
+        self.map.useful(k).intersection(sets).size()
     }
 }
 
 impl DelayModel for MapModel {
     ghost charge = { λ m. reloads (lost_by m.reckoning) (blocks_of m.map) };
 
-    ghost monotone = { λ m. (reloads_lawful (lost_by m.reckoning) (keeps m.reckoning) (blocks_of m.map) m.map.small).monotone };
+    ghost monotone = { λ m. (reckoned_lawful m.reckoning m.map).monotone };
 
-    ghost bounded = { λ m. (reloads_lawful (lost_by m.reckoning) (keeps m.reckoning) (blocks_of m.map) m.map.small).bounded };
+    ghost bounded = { λ m. (reckoned_lawful m.reckoning m.map).bounded };
 
-    fn charge_of(&self, i: Priority, b: u8, j: Priority, column: &[u8]) -> u32 {
-        if !in_range(i, b, j) {
+    fn charge_of(&self, question: &Question<'_>) -> u32 {
+        if !question.in_range() {
             return 0;
         }
-        let rows = affected_rows(i, b, j, column);
-        self.map.reload() as u32 * self.lost(j, rows)
+        let rows = question.affected_rows();
+        u32::from(self.map.reload()) * self.lost(question.preempting, rows)
     }
 }
 

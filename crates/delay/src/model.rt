@@ -1,14 +1,16 @@
 ghost use Rattle.std.specs.Prelude.{◌≡◌, ℕ, ◌≤◌, List};
 ghost use Rattle.theory.specs.Delays.{Alike, Charge, NoGreater, too_much};
 ghost use Rattle.theory.proofs.Charging.{nothing_lawful};
+ghost use Rattle.delay.specs.Blockers.{blocker_of};
 
-use names::Priority;
+use super::question::Question;
 
+// A number, and no `None`: the laws order charges, and the switch adds to them.
 /// The greatest charge, which means "too much".
 pub const TOO_MUCH: u32 = 1_048_575;
 
 /// A delay model: the ticks that each job of row j costs in cache reloads, while row i is judged with blocker b in a
-/// column of thresholds.
+/// column of thresholds. In the charge, b is 0 where there is no blocker.
 ///
 /// Two laws make a model fit for the analysis. Stronger thresholds never cost more: of two columns that are 0 at the
 /// same priorities, one that has no greater number at 1 to i and at b has no greater charge. And a charge is at most
@@ -16,10 +18,10 @@ pub const TOO_MUCH: u32 = 1_048_575;
 pub trait DelayModel {
     ghost charge: { Self → Charge };
 
-    /// The charge for (i, b, j) in a column; b is 0 where there is no blocker. It is never refused: every model here
-    /// answers 0 where i or j is outside 1 to 32 or b is above 32, and an entry that the column does not have is a 0.
-    fn charge_of(&self, i: Priority, b: u8, j: Priority, column: &[u8]) -> u32
-        ensures { result ≡ charge self.now i.0 b j.0 column.now };
+    /// The charge. It is never refused: every model here answers 0 where the judged or the pre-empting row is outside 1
+    /// to 32 or the blocker is above 32, and an entry that the column does not have is a 0.
+    fn charge_of(&self, question: &Question<'_>) -> u32
+        ensures { result ≡ charge self.now question.now.pair.row.0 (blocker_of question.now.pair.blocker) question.now.preempting.0 question.now.column.now };
 
     ghost monotone: { (m : Self) (i b j : ℕ) (g h : List ℕ) → NoGreater i b g h → charge m i b j g ≤ charge m i b j h };
 
@@ -37,7 +39,7 @@ impl DelayModel for NoDelay {
 
     ghost bounded = { λ _. nothing_lawful.bounded };
 
-    fn charge_of(&self, _i: Priority, _b: u8, _j: Priority, _column: &[u8]) -> u32 {
+    fn charge_of(&self, _question: &Question<'_>) -> u32 {
         0
     }
 }

@@ -1,3 +1,4 @@
+// An enum and no trait: the kinds are four for good, a program goes through them, and one proof of the laws serves all.
 /// How the blocks are counted that one job of row j makes the affected rows load again.
 #[derive(Clone, Copy, PartialEq, Eq, Debug)]
 pub enum Reckoning {

@@ -1,10 +1,9 @@
 ghost use Rattle.theory.specs.Delays.{switched};
-ghost use Rattle.theory.proofs.Charging.{switched_lawful};
+ghost use Rattle.theory.proofs.Charging.{switched_bounded, switched_monotone};
 
 use super::model::{DelayModel, TOO_MUCH};
-use super::rows::{affected_rows, in_range};
+use super::question::Question;
 use super::switch_cost::SwitchCost;
-use names::Priority;
 
 /// The cost of a switch over another model: the charge below, and the cost when some row is affected, but never more
 /// than too much. It is a model again.
@@ -17,23 +16,19 @@ pub struct Switch<M> {
 impl<M: DelayModel> DelayModel for Switch<M> {
     ghost charge = { λ s. switched s.cost.ticks (M.DelayModel.charge s.below) };
 
-    ghost monotone = { λ s.
-        let met = M.DelayModel in
-        (switched_lawful s.cost.ticks (M.DelayModel.charge s.below) (record { monotone = met.monotone s.below; bounded = met.bounded s.below })).monotone };
+    ghost monotone = { λ s. switched_monotone s.cost.ticks (M.DelayModel.charge s.below) (M.DelayModel.monotone s.below) };
 
-    ghost bounded = { λ s.
-        let met = M.DelayModel in
-        (switched_lawful s.cost.ticks (M.DelayModel.charge s.below) (record { monotone = met.monotone s.below; bounded = met.bounded s.below })).bounded };
+    ghost bounded = { λ s. switched_bounded s.cost.ticks (M.DelayModel.charge s.below) };
 
-    fn charge_of(&self, i: Priority, b: u8, j: Priority, column: &[u8]) -> u32 {
-        if !in_range(i, b, j) {
+    fn charge_of(&self, question: &Question<'_>) -> u32 {
+        if !question.in_range() {
             return 0;
         }
-        let below = self.below.charge_of(i, b, j, column);
-        if affected_rows(i, b, j, column).is_empty() {
+        let below = self.below.charge_of(question);
+        if question.affected_rows().is_empty() {
             below
         } else {
-            (below + self.cost.ticks() as u32).min(TOO_MUCH)
+            (below + u32::from(self.cost.ticks())).min(TOO_MUCH)
         }
     }
 }

@@ -14,6 +14,7 @@ pub struct SwitchCost {
 }
 
 impl SwitchCost {
+    // `new` and `ticks`, and no `TryFrom` and `From`: the names say the rule and the unit.
     /// Refused above 4095 ticks.
     pub fn new(ticks: u16) -> Result<SwitchCost, Refusal>
         ensures { elim result [ Ok w ↦ (w.ticks ≡ ticks) × (ticks ≤ switch_top) | Err e ↦ (e ≡ Refusal.SwitchCostRange) × (switch_top < ticks) ] }

@@ -1,10 +1,12 @@
 ghost use Rattle.std.specs.Prelude.{if◌then◌else◌};
 ghost use Rattle.std.proofs.Common.{rules};
 
+use super::ask::question;
 use blocks::map::BlockMap;
 use blocks::sets::CacheSets;
 use delay::map_model::MapModel;
 use delay::model::{DelayModel, NoDelay, TOO_MUCH};
+use delay::question::Question;
 use delay::reckoning::Reckoning;
 use delay::switch::Switch;
 use delay::switch_cost::SwitchCost;
@@ -13,22 +15,15 @@ use names::refusal::Refusal;
 use std::test::Fail;
 
 // The charges by each reckoning, E, U, V and X.
-fn charges(map: BlockMap, i: u8, b: u8, j: u8, column: &[u8]) -> [u32; 4] {
-    let by = [
+fn charges(map: BlockMap, i: u8, blocker: Option<u8>, j: u8, column: &[u8]) -> [u32; 4] {
+    let asked = question(i, blocker, j, column);
+    [
         Reckoning::EvictingOnly,
         Reckoning::UsefulOnly,
         Reckoning::UsefulUnion,
         Reckoning::EvictingUnion,
-    ];
-    let mut all = [0; 4];
-    for k in 0..4 {
-        let model = MapModel {
-            reckoning: by[k],
-            map,
-        };
-        all[k] = model.charge_of(Priority(i), b, Priority(j), column);
-    }
-    all
+    ]
+    .map(|reckoning| MapModel { reckoning, map }.charge_of(&asked))
 }
 
 fn two_rows() -> Result<BlockMap, Refusal> {
@@ -46,9 +41,9 @@ fn two_rows() -> Result<BlockMap, Refusal> {
 #[test]
 fn charges_of_two_rows(rt: HostRuntime) -> Result<(), Fail> {
     let map = two_rows()?;
-    assert_eq!(rt; charges(map, 2, 0, 1, &[1, 2]), [16, 12, 8, 8]);
-    assert_eq!(rt; charges(map, 2, 0, 1, &[1, 1]), [0; 4]);
-    assert_eq!(rt; NoDelay.charge_of(Priority(2), 0, Priority(1), &[1, 2]), 0);
+    assert_eq!(rt; charges(map, 2, None, 1, &[1, 2]), [16, 12, 8, 8]);
+    assert_eq!(rt; charges(map, 2, None, 1, &[1, 1]), [0; 4]);
+    assert_eq!(rt; NoDelay.charge_of(&question(2, None, 1, &[1, 2])), 0);
     Ok(())
 }
 
@@ -73,11 +68,11 @@ fn four_rows() -> Result<BlockMap, Refusal> {
 fn reckonings_differ(rt: HostRuntime) -> Result<(), Fail> {
     let map = four_rows()?;
     let own = [1, 2, 3, 4];
-    assert_eq!(rt; charges(map, 4, 0, 1, &own), [100, 50, 50, 30]);
-    assert_eq!(rt; charges(map, 4, 0, 2, &own), [30, 50, 20, 40]);
-    assert_eq!(rt; charges(map, 3, 0, 1, &own), [100, 40, 30, 30]);
-    assert_eq!(rt; charges(map, 3, 4, 1, &own), [100, 50, 50, 30]);
-    assert_eq!(rt; charges(map, 3, 4, 2, &own), [30, 50, 20, 40]);
+    assert_eq!(rt; charges(map, 4, None, 1, &own), [100, 50, 50, 30]);
+    assert_eq!(rt; charges(map, 4, None, 2, &own), [30, 50, 20, 40]);
+    assert_eq!(rt; charges(map, 3, None, 1, &own), [100, 40, 30, 30]);
+    assert_eq!(rt; charges(map, 3, Some(4), 1, &own), [100, 50, 50, 30]);
+    assert_eq!(rt; charges(map, 3, Some(4), 2, &own), [30, 50, 20, 40]);
     Ok(())
 }
 
@@ -85,11 +80,14 @@ fn reckonings_differ(rt: HostRuntime) -> Result<(), Fail> {
 #[test]
 fn rows_are_affected_by_threshold(rt: HostRuntime) -> Result<(), Fail> {
     let map = four_rows()?;
-    assert_eq!(rt; charges(map, 4, 0, 1, &[1, 2, 1, 4]), [100, 50, 30, 30]);
-    assert_eq!(rt; charges(map, 3, 0, 1, &[1, 1, 1, 4]), [0; 4]);
-    assert_eq!(rt; charges(map, 3, 4, 1, &[1, 1, 1, 4]), [100, 50, 30, 30]);
-    assert_eq!(rt; charges(map, 4, 0, 2, &[1, 2, 2, 2]), [0; 4]);
-    assert_eq!(rt; charges(map, 4, 0, 2, &[1, 2, 2, 3]), [30, 50, 10, 40]);
+    assert_eq!(rt; charges(map, 4, None, 1, &[1, 2, 1, 4]), [100, 50, 30, 30]);
+    assert_eq!(rt; charges(map, 3, None, 1, &[1, 1, 1, 4]), [0; 4]);
+    assert_eq!(rt;
+        charges(map, 3, Some(4), 1, &[1, 1, 1, 4]),
+        [100, 50, 30, 30]
+    );
+    assert_eq!(rt; charges(map, 4, None, 2, &[1, 2, 2, 2]), [0; 4]);
+    assert_eq!(rt; charges(map, 4, None, 2, &[1, 2, 2, 3]), [30, 50, 10, 40]);
     Ok(())
 }
 
@@ -100,9 +98,9 @@ fn the_greatest_charge_of_a_map(rt: HostRuntime) -> Result<(), Fail> {
         map.footprint(Priority(p), CacheSets::full(), CacheSets::full())?;
     }
     let column = [32; 32];
-    assert_eq!(rt; charges(map, 1, 0, 31, &column), [261_888; 4]);
-    assert_eq!(rt; charges(map, 32, 0, 31, &column), [261_888; 4]);
-    assert_eq!(rt; charges(map, 32, 0, 32, &column), [0; 4]);
+    assert_eq!(rt; charges(map, 1, None, 31, &column), [261_888; 4]);
+    assert_eq!(rt; charges(map, 32, None, 31, &column), [261_888; 4]);
+    assert_eq!(rt; charges(map, 32, None, 32, &column), [0; 4]);
     Ok(())
 }
 
@@ -135,13 +133,13 @@ fn a_switch_over_each_model(rt: HostRuntime) -> Result<(), Fail> {
         map: two_rows()?,
     };
     let one = over(below, 1)?;
-    assert_eq!(rt; one.charge_of(Priority(2), 0, Priority(1), &[1, 2]), 9);
-    assert_eq!(rt; one.charge_of(Priority(2), 0, Priority(1), &[1, 1]), 0);
+    assert_eq!(rt; one.charge_of(&question(2, None, 1, &[1, 2])), 9);
+    assert_eq!(rt; one.charge_of(&question(2, None, 1, &[1, 1])), 0);
     let more = over(one, 4095)?;
-    assert_eq!(rt; more.charge_of(Priority(2), 0, Priority(1), &[1, 2]), 4104);
-    assert_eq!(rt; more.charge_of(Priority(2), 0, Priority(1), &[1, 1]), 0);
+    assert_eq!(rt; more.charge_of(&question(2, None, 1, &[1, 2])), 4104);
+    assert_eq!(rt; more.charge_of(&question(2, None, 1, &[1, 1])), 0);
     let none = over(NoDelay, 5)?;
-    assert_eq!(rt; none.charge_of(Priority(2), 0, Priority(1), &[1, 2]), 5);
+    assert_eq!(rt; none.charge_of(&question(2, None, 1, &[1, 2])), 5);
     Ok(())
 }
 
@@ -156,7 +154,7 @@ impl DelayModel for Fixed {
 
     ghost bounded = { Prim.search rules };
 
-    fn charge_of(&self, _i: Priority, _b: u8, _j: Priority, _column: &[u8]) -> u32 {
+    fn charge_of(&self, _question: &Question<'_>) -> u32 {
         if self.0 { TOO_MUCH } else { TOO_MUCH - 1 }
     }
 }
@@ -172,10 +170,7 @@ fn a_switch_stops_at_too_much(rt: HostRuntime) -> Result<(), Fail> {
         (false, 4095, TOO_MUCH),
     ] {
         let model = over(Fixed(top), ticks)?;
-        assert_eq!(rt;
-            model.charge_of(Priority(2), 0, Priority(1), &[1, 2]),
-            expected
-        );
+        assert_eq!(rt; model.charge_of(&question(2, None, 1, &[1, 2])), expected);
     }
     Ok(())
 }

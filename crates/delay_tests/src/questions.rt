@@ -1,9 +1,9 @@
+use super::ask::question;
 use blocks::map::BlockMap;
 use blocks::sets::CacheSets;
 use delay::map_model::MapModel;
 use delay::model::DelayModel;
 use delay::reckoning::Reckoning;
-use delay::rows::affected_rows;
 use delay::switch::Switch;
 use delay::switch_cost::SwitchCost;
 use names::Priority;
@@ -29,21 +29,19 @@ fn a_question_out_of_range_costs_nothing(rt: HostRuntime) -> Result<(), Fail> {
     let model = full_model()?;
     let column = [255; 40];
     for (i, b, j, expected) in [
-        (1, 0, 1, 519),
-        (32, 32, 32, 519),
-        (0, 0, 1, 0),
-        (33, 0, 1, 0),
-        (255, 0, 1, 0),
-        (2, 33, 1, 0),
-        (2, 255, 1, 0),
-        (2, 0, 0, 0),
-        (2, 0, 33, 0),
-        (2, 0, 255, 0),
+        (1, None, 1, 519),
+        (1, Some(0), 1, 519),
+        (32, Some(32), 32, 519),
+        (0, None, 1, 0),
+        (33, None, 1, 0),
+        (255, None, 1, 0),
+        (2, Some(33), 1, 0),
+        (2, Some(255), 1, 0),
+        (2, None, 0, 0),
+        (2, None, 33, 0),
+        (2, None, 255, 0),
     ] {
-        assert_eq!(rt;
-            model.charge_of(Priority(i), b, Priority(j), &column),
-            expected
-        );
+        assert_eq!(rt; model.charge_of(&question(i, b, j, &column)), expected);
     }
     Ok(())
 }
@@ -54,23 +52,20 @@ fn a_missing_entry_is_0(rt: HostRuntime) -> Result<(), Fail> {
     let column = [0, 0, 3, 0, 5];
     for (len, expected) in [(0, 0), (2, 0), (3, 519), (5, 519)] {
         assert_eq!(rt;
-            model.charge_of(Priority(4), 0, Priority(1), &column[..len]),
+            model.charge_of(&question(4, None, 1, &column[..len])),
             expected
         );
     }
-    assert_eq!(rt;
-        model.charge_of(Priority(4), 5, Priority(3), &column[..4]),
-        0
-    );
-    assert_eq!(rt; model.charge_of(Priority(4), 5, Priority(3), &column), 519);
-    assert_eq!(rt; model.charge_of(Priority(4), 0, Priority(3), &column), 0);
+    assert_eq!(rt; model.charge_of(&question(4, Some(5), 3, &column[..4])), 0);
+    assert_eq!(rt; model.charge_of(&question(4, Some(5), 3, &column)), 519);
+    assert_eq!(rt; model.charge_of(&question(4, None, 3, &column)), 0);
     Ok(())
 }
 
 #[test]
 fn affected_rows_one_by_one(rt: HostRuntime) {
     let column = [1, 1, 3, 2, 5, 4];
-    let rows = affected_rows(Priority(4), 6, Priority(1), &column);
+    let rows = question(4, Some(6), 1, &column).affected_rows();
     for (k, expected) in [
         (0, false),
         (1, false),
@@ -86,5 +81,5 @@ fn affected_rows_one_by_one(rt: HostRuntime) {
         assert_eq!(rt; rows.contains(Priority(k)), expected);
     }
     assert!(rt; !rows.is_empty());
-    assert!(rt; affected_rows(Priority(2), 0, Priority(1), &column).is_empty());
+    assert!(rt; question(2, None, 1, &column).affected_rows().is_empty());
 }

@@ -1,11 +1,9 @@
 // Reads lines of calls on a sheet from standard input, and prints the answer to each and the sheet that they leave.
 #![tactic(auto)]
 
-use anyhow::anyhow;
-use history::call::{Answer, Call};
-use names::refusal::Refusal;
+use anyhow::ensure;
 use names::{PRIORITIES, Priority};
-use script::answer::{answer_line, mistake_line};
+use script::answer::{Answered, Misread};
 use script::line::Reply;
 use script::run::run_script;
 use sheet::row::Row;
@@ -16,74 +14,57 @@ use std::io::Read;
 // Longer scripts are turned away, so that an input without an end is one too.
 const LONGEST: usize = 1_048_576;
 
-fn reason(refusal: Refusal) -> &'static str {
-    match refusal {
-        Refusal::PriorityRange(_) => "a priority is from 1 to 32",
-        Refusal::RunTimeRange(_) => "a run time is from 1 to 16777215 ticks",
-        Refusal::SeparationRange(_) => "a separation is from 1 to 100000000 ticks",
-        Refusal::DeadlineRange(_) => "a deadline is from 1 to 100000000 ticks",
-        Refusal::NoRow(_) => "there is no row",
-        Refusal::CapRange(_) => "a cap is from 1 to its row's priority",
-        _ => "no call of a script breaks this rule",
+fn print_answer(rt: &impl Print, answered: Answered) -> io::Result<()> {
+    match answered.answer {
+        Ok(()) => rt.println(answered),
+        Err(refusal) => println!(rt; "{answered} ({refusal})"),
     }
 }
 
-fn print_answer(rt: &HostRuntime, call: Call, answer: Answer) -> io::Result<()> {
-    let line = answer_line(call, answer, rt.alloc())?;
-    match answer {
-        Answer::Accepted => println!(rt; "{line}"),
-        Answer::Refused(refusal) => {
-            let why = reason(refusal);
-            println!(rt; "{line} ({why})")
-        }
-    }
-}
-
-fn print_reply(rt: &HostRuntime, number: usize, reply: Reply) -> io::Result<()> {
+fn print_reply(rt: &impl Print, number: usize, reply: Reply) -> io::Result<()> {
     match reply {
-        Reply::Nothing => Ok(()),
-        Reply::Answered(call, answer) => print_answer(rt, call, answer),
-        Reply::Mistaken(mistake) => rt.println(mistake_line(number, mistake, rt.alloc())?),
+        Ok(None) => Ok(()),
+        Ok(Some(answered)) => print_answer(rt, answered),
+        Err(mistake) => rt.println(Misread { number, mistake }),
     }
 }
 
-fn print_replies(rt: &HostRuntime, replies: &[Reply]) -> io::Result<()> {
-    for (i, reply) in replies.iter().enumerate() {
-        print_reply(rt, i + 1, *reply)?;
+fn print_replies(rt: &impl Print, replies: &[Reply]) -> io::Result<()> {
+    for (number, reply) in (1..).zip(replies) {
+        print_reply(rt, number, *reply)?;
     }
     Ok(())
 }
 
-fn print_row(rt: &HostRuntime, p: u8, row: Row) -> io::Result<()> {
-    let run_time = row.timing.run_time;
-    let separation = row.timing.separation;
-    let deadline = row.timing.deadline;
-    let cap = row.cap.0;
-    println!(rt; "{p:>8}  {run_time:>8}  {separation:>10}  {deadline:>9}  {cap:>3}")
+fn print_row(rt: &impl Print, p: Priority, row: Row) -> io::Result<()> {
+    println!(rt;
+        "{p:>8}  {:>8}  {:>10}  {:>9}  {:>3}",
+        row.timing.run_time, row.timing.separation, row.timing.deadline, row.cap
+    )
 }
 
-fn print_sheet(rt: &HostRuntime, sheet: &Sheet) -> io::Result<()> {
+fn print_sheet(rt: &impl Print, sheet: &Sheet) -> io::Result<()> {
     println!(rt; "priority  run time  separation   deadline  cap")?;
-    let mut empty = true;
-    for p in 1..=PRIORITIES {
-        if let Some(row) = sheet.row(Priority(p)) {
-            print_row(rt, p, row)?;
-            empty = false;
-        }
+    let mut rows = (1..=PRIORITIES)
+        .map(Priority)
+        .filter_map(|p| Some((p, sheet.row(p)?)))
+        .peekable();
+    if rows.peek().is_none() {
+        println!(rt; "  (none)")?;
     }
-    if empty {
-        println!(rt; "  (none)")
-    } else {
-        Ok(())
+    for (p, row) in rows {
+        print_row(rt, p, row)?;
     }
+    Ok(())
 }
 
 fn run(rt: &HostRuntime) -> anyhow::Result<()> {
     let mut text = Vec::new(rt.alloc());
     rt.stdin().take(LONGEST as u64 + 1).read_to_end(&mut text)?;
-    if text.len() > LONGEST {
-        return Err(anyhow!("the script is longer than 1048576 bytes"));
-    }
+    ensure!(
+        text.len() <= LONGEST,
+        "the script is longer than {LONGEST} bytes"
+    );
     let report = run_script(&text, rt.alloc())?;
     print_replies(rt, &report.replies)?;
     println!(rt)?;

@@ -1,16 +1,14 @@
 -- The program's calls and answers as those of a history.
-use Rattle.std.specs.Prelude.{◌≡◌, ◌<◌, ◌≤◌, List, map, length, take, drop, Some, None, Ok, Err, Option, Result}
+use Rattle.std.specs.Prelude.{◌≡◌, ◌<◌, ◌≤◌, List, map, length, take, drop, Some, Ok, Err, Option, Result}
 use Rattle.history.specs.declared.call.Call.{Call}
 use Rattle.history.specs.declared.call.Call.TheVariants.{Enter, Strike, Cap}
-use Rattle.history.specs.declared.call.Answer.{Answer}
-use Rattle.history.specs.declared.call.Answer.TheVariants.{Accepted, Refused}
 use Rattle.theory.specs.Figures.{Fault, fault}
 use Rattle.theory.specs.Edits.{Edit, enter, strike, limit}
 use Rattle.theory.specs.History.{Replayed}
 use Rattle.names.specs.declared.refusal.Refusal.{Refusal}
 use Rattle.sheet.specs.declared.table.Sheet.{Sheet}
 use Rattle.sheet.specs.Views.{table_of}
-use Rattle.names.specs.Refusals.{fault_of}
+use Rattle.names.specs.Refusals.{fault_of, refused}
 use Rattle.names.specs.Timings.{timing_of}
 
 abbrev pub edit_of : Call → Edit
@@ -18,9 +16,9 @@ edit_of (Enter p w) = enter p.0 (timing_of w)
 edit_of (Strike p) = strike p.0
 edit_of (Cap p k) = limit p.0 k.0
 
-abbrev pub fault_in : Answer → Option Fault
-fault_in Accepted = None
-fault_in (Refused e) = Some (fault_of e)
+-- what a call is answered
+abbrev pub Answer : Type 0
+Answer = Result (Unit {0}) Refusal
 
 -- each of these calls edits the sheet
 abbrev pub some_edit : Call → Option Edit
@@ -30,7 +28,7 @@ abbrev pub edits_of : List Call → List (Option Edit)
 edits_of calls = map some_edit calls
 
 abbrev pub faults_in : List Answer → List (Option Fault)
-faults_in answers = map fault_in answers
+faults_in answers = map refused answers
 
 -- What a replay into a list promises: the first entries are the answers and no other entry has changed. It is
 -- refused with 1 at 0 exactly when the list is shorter than the calls, and then nothing has changed.

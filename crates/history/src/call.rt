@@ -9,9 +9,5 @@ pub enum Call {
     Cap(Priority, Threshold),
 }
 
-/// What a call is answered.
-#[derive(Clone, Copy, PartialEq, Eq, Debug)]
-pub enum Answer {
-    Accepted,
-    Refused(Refusal),
-}
+/// What a call is answered: nothing where it was accepted, else why it was refused.
+pub type Answer = Result<(), Refusal>;

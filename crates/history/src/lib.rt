@@ -6,7 +6,7 @@ ghost use Rattle.theory.specs.Edits.{Edited};
 ghost use Rattle.theory.specs.History.{Replayed};
 ghost use Rattle.sheet.specs.Views.{table_of};
 ghost use Rattle.names.specs.Refusals.{refused};
-ghost use Rattle.history.specs.Calls.{edit_of, fault_in, edits_of, faults_in, ReplayedInto};
+ghost use Rattle.history.specs.Calls.{edit_of, edits_of, faults_in, ReplayedInto};
 
 pub mod call;
 
@@ -22,24 +22,16 @@ pub struct Transcript {
     pub sheet: Sheet,
 }
 
-fn answer_of(r: Result<(), Refusal>) -> Answer
-    ensures { fault_in result ≡ refused r }
-{
-    match r {
-        Ok(()) => Answer::Accepted,
-        Err(e) => Answer::Refused(e),
-    }
-}
-
 /// Makes one call.
 pub fn apply(sheet: &mut Sheet, call: Call) -> Answer
-    ensures { Edited (edit_of call) (table_of sheet.old) (fault_in result) (table_of sheet.new) }
+    ensures { Edited (edit_of call) (table_of sheet.old) (refused result) (table_of sheet.new) }
 {
-    answer_of(match call {
+    // A call is data, which is told, compared and printed: a closure in its place could only be called.
+    match call {
         Call::Enter(p, timing) => sheet.enter(p, timing),
         Call::Strike(p) => sheet.strike(p),
         Call::Cap(p, to) => sheet.cap(p, to),
-    })
+    }
 }
 
 // Makes all the calls, in their order, on a fresh sheet, and writes their answers to the front of a list.
@@ -49,6 +41,7 @@ fn make_calls(calls: &[Call], answers: &mut [Answer]) -> Sheet
     ensures rest { drop (length calls.now) answers.new ≡ drop (length calls.now) answers.old }
 {
     let mut sheet = Sheet::new();
+    // By place: over a zip with answers.iter_mut() `search` did not prove `returns-clause-replays`, as it knows no answer.
     for (i, call) in calls.iter().enumerate() {
         answers[i] = apply(&mut sheet, *call);
     }
@@ -70,7 +63,7 @@ pub fn replay_into(calls: &[Call], answers: &mut [Answer]) -> Result<Sheet, Refu
 pub fn replay(calls: &[Call], heap: Global) -> Result<Transcript, AllocError>
     ensures { IfOk result (λ v. Replayed (edits_of calls.now) (faults_in v.answers.items) (table_of v.sheet)) }
 {
-    let mut answers = vec![in heap; Answer::Accepted; calls.len()]?;
+    let mut answers = vec![in heap; Ok(()); calls.len()]?;
     let sheet = make_calls(calls, &mut answers);
     Ok(Transcript { answers, sheet })
 }

@@ -1,10 +1,11 @@
 // The words that every crate shares: priorities, thresholds, timings and refusals.
 #![tactic(auto)]
 
-ghost use Rattle.std.specs.Prelude.{◌≡◌, ◌-◌, if◌then◌else◌, Ok, Err};
+ghost use Rattle.std.specs.Prelude.{◌≡◌, ◌-◌, if◌then◌else◌, Some, Ok, Err, decimal};
 ghost use Rattle.theory.specs.Figures.{priorities, within};
 
-use refusal::Refusal;
+use refusal::{Place, Refusal};
+use std::fmt;
 
 pub mod refusal;
 
@@ -33,8 +34,34 @@ impl Priority {
         ensures { result ≡ (if within priorities self.0 then Ok (self.0 - 1) else Err (Refusal.PriorityRange self.0)) }
     {
         if self.0 < 1 || self.0 > PRIORITIES {
-            return Err(Refusal::PriorityRange(self.0 as u16));
+            return Err(Refusal::PriorityRange(self.into()));
         }
         Ok(self.0 as usize - 1)
+    }
+}
+
+impl From<Priority> for Place {
+    ghost from_gives = { λ p place. place ≡ p.0 };
+
+    fn from(p: Priority) -> Place {
+        Place::from(p.0)
+    }
+}
+
+impl fmt::Display for Priority {
+    ghost output = { λ p. Some (decimal p.0) };
+
+    fn fmt<W: fmt::Write>(&self, f: &mut fmt::Formatter<W>) -> fmt::Result {
+        self.0.fmt(f)
+    }
+}
+
+// As of a priority, once more: no macro of the repository may write an impl.
+impl fmt::Display for Threshold {
+    ghost output = { λ q. Some (decimal q.0) };
+
+    fn fmt<W: fmt::Write>(&self, f: &mut fmt::Formatter<W>) -> fmt::Result {
+        let Threshold(number) = self;
+        number.fmt(f)
     }
 }

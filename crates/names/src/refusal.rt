@@ -1,5 +1,9 @@
-ghost use Rattle.std.specs.Prelude.{◌≡◌};
+ghost use Rattle.std.specs.Prelude.{◌≡◌, Some};
 ghost use Rattle.names.specs.Refusals.{fault_of};
+ghost use Rattle.names.specs.Reasons.{reason};
+
+use std::error::Error;
+use std::fmt;
 
 /// Where a rule was broken: a priority, a cache set or a record of a file; 0 where there is nothing to point at.
 pub type Place = u16;
@@ -30,6 +34,7 @@ pub enum Refusal {
 }
 
 impl Refusal {
+    // A number, since it is told to programs that know no Rust.
     /// The number under which the rule is listed.
     pub fn number(self) -> u8
         ensures { result ≡ (fault_of self).number }
@@ -84,3 +89,33 @@ impl Refusal {
         }
     }
 }
+
+impl fmt::Display for Refusal {
+    ghost output = { λ r. Some (reason r) };
+
+    fn fmt<W: fmt::Write>(&self, f: &mut fmt::Formatter<W>) -> fmt::Result {
+        f.write_str(match self {
+            Refusal::ListTooShort => "a list has too few entries",
+            Refusal::PriorityRange(_) => "a priority is from 1 to 32",
+            Refusal::RunTimeRange(_) => "a run time is from 1 to 16777215 ticks",
+            Refusal::SeparationRange(_) => "a separation is from 1 to 100000000 ticks",
+            Refusal::DeadlineRange(_) => "a deadline is from 1 to 100000000 ticks",
+            Refusal::NoRow(_) => "there is no row",
+            Refusal::CapRange(_) => "a cap is from 1 to its row's priority",
+            Refusal::ColumnMisfit(_) => "the column does not fit the sheet",
+            Refusal::NotBlocking(_) => "the blocker does not block the row",
+            Refusal::UsefulNotEvicting(_) => "a useful set has to be evicting",
+            Refusal::ReloadRange => "a reload time is at most 1023 ticks",
+            Refusal::SwitchCostRange => "a switch cost is at most 4095 ticks",
+            Refusal::NoColumn(_) => "no column passes",
+            Refusal::FileTooShort => "a sheet file has at least 16 bytes",
+            Refusal::UnknownVersion => "the version of the sheet file is unknown",
+            Refusal::UnknownLetter => "no delay model has the letter",
+            Refusal::WrongLayout => "the sheet file does not keep the layout",
+            Refusal::SpareByte(_) => "a spare byte is 0",
+            Refusal::PriorityOrder(_) => "priorities rise from record to record",
+        })
+    }
+}
+
+impl Error for Refusal {}

@@ -1,24 +1,57 @@
 -- The equations of a case are those of its question.
-use Rattle.std.proofs.Common.{◌≡◌, ℕ, ◌+◌, ◌*◌, ◌≤◌, Bool, true, false, cond, ltb, List, Some, None, Option, sym, refl, ap, ◌∙◌, subst, ap₂, arith}
+use Rattle.std.proofs.Common.{◌≡◌, ℕ, zero, suc, ◌+◌, ◌-◌, ◌*◌, ◌<◌, ◌≤◌, Bool, true, false, cond, ltb, List, length, take, drop, get_or, Some, None, Option, sym, refl, ap, ◌∙◌, subst, ap₂, le_trans, add-one, zero-add, arith}
+use Rattle.std.proofs.lemmas.Bool.{and_parts, leb-true}
+use Rattle.std.proofs.lemmas.List.{get_or-take, length-take-le, take_all}
+use Rattle.std.proofs.lemmas.List.Sums.{sum_by_more, sum_by-take-drop}
 use mathlib.Core.Path.{fun_ext}
+use Rattle.names.specs.Timings.{timing_of}
+use Rattle.sheet.specs.declared.row.Row.{Row}
 use Rattle.sheet.specs.declared.table.Sheet.{Sheet}
 use Rattle.sheet.specs.Views.{figures, table_of}
 use Rattle.sheet.proofs.Soundness.{sound_table}
 use Rattle.theory.specs.Arrivals.{before, through}
-use Rattle.theory.specs.Columns.{entry}
+use Rattle.theory.specs.Columns.{Fits, entry, fits_row}
 use Rattle.theory.specs.Delays.{Charge, Lawful}
 use Rattle.theory.specs.Equations.{Question, Equations, question, equations, contribution, price, load, sum_below, above}
-use Rattle.theory.specs.Figures.{Timing, Figures, Within}
+use Rattle.theory.specs.Figures.{Table, Timing, Figures, InRange, Within}
 use Rattle.theory.specs.Outcomes.{Verdict, overcharged, no_period, late, passes, Affordable, Judged}
-use Rattle.theory.specs.Regular.{Regular}
 use Rattle.theory.proofs.Arrivals.{before_next}
-use Rattle.theory.proofs.Demands.{Apart, Proper, regular, sum_same, sum_split}
+use Rattle.theory.specs.Regular.{Regular}
+use Rattle.theory.proofs.Demands.{Apart, Proper, regular, sum_next, sum_same, sum_split}
 use Rattle.theory.proofs.Findings.{proper}
-use Rattle.response.specs.declared.case.Case.{Case}
-use Rattle.response.specs.Cases.{own_timing, equations_of, JobsJudged}
-use Rattle.response.specs.Gathering.{charges_in, load_before, Gathered, CaseOf}
-use Rattle.response.specs.Ticks.{ticks_of}
-use Rattle.response.proofs.Gathering.{affordable, cheap_join}
+use Rattle.response.specs.declared.source.Source.{Source}
+use Rattle.response.specs.Cases.{JobsJudged}
+use Rattle.response.specs.Demands.{equations_in}
+use Rattle.response.specs.Gathering.{charges_in, SourceOf, Gathered}
+use Rattle.response.specs.Ticks.{source_ticks, ticks_of}
+use Rattle.response.proofs.Gathering.{affordable}
+
+-- the ticks of row j for the jobs that it releases before x
+abbrev load_before : Table → (ℕ → ℕ) → ℕ → ℕ → ℕ
+load_before rows charge x j = load (λ w. before w x) (rows j) (charge j)
+
+-- ---- what the sources take is what their rows do
+source_load : (x : ℕ) (o : Option Figures) (c : ℕ) (s : Option Source) → SourceOf o c s → source_ticks x s ≡ load (λ w. before w x) o c
+unfolding source_ticks price
+source_load x o c None none = ap (λ (y : Option Figures). load (λ w. before w x) y c) (sym none)
+source_load x o c (Some s) is =
+    ap (λ (p : ℕ). before (timing_of s.row.timing) x * p) is.1 ∙ ap (λ (y : Option Figures). load (λ w. before w x) y c) is.0
+
+module _ (rows : Table) (charge : ℕ → ℕ) (hi : ℕ) (xs : List (Option Source)) (long : length xs ≡ hi - 1)
+    (each : (j : ℕ) → 1 ≤ j → j < hi → SourceOf (rows j) (charge j) (get_or xs (j - 1) None)) (x : ℕ) where
+  ticks_to : (n : ℕ) → n < hi → ticks_of (take n xs) x + sum_below (load_before rows charge x) 1 ≡ sum_below (load_before rows charge x) (n + 1)
+  unfolding ticks_of
+  ticks_to zero l = let one : 0 + 1 ≡ 1 = omega arith in ap (λ (y : ℕ). 0 + y) refl ∙ zero-add _ ∙ sym (ap (sum_below (load_before rows charge x)) one)
+  ticks_to (suc n) l =
+      let step = sum_by_more (source_ticks x) xs n None (omega (arith, long)) in
+      let here = source_load x (rows (n + 1)) (charge (n + 1)) (get_or xs n None) (subst (λ (k : ℕ). SourceOf (rows (n + 1)) (charge (n + 1)) (get_or xs k None)) (let e : n + 1 - 1 ≡ n = omega arith in e) (each (n + 1) (omega arith) (omega arith))) in
+      rw (← add-one) (omega (arith, step, here, ticks_to n (omega arith), sum_next (load_before rows charge x) (n + 1)))
+
+  ticks_all : 1 ≤ hi → ticks_of xs x + sum_below (load_before rows charge x) 1 ≡ sum_below (load_before rows charge x) hi
+  ticks_all l =
+      let last : hi - 1 + 1 ≡ hi = omega arith in
+      ap (λ (ys : List (Option Source)). ticks_of ys x + sum_below (load_before rows charge x) 1) (sym (take_all (hi - 1) xs (omega (arith, long))))
+      ∙ ticks_to (hi - 1) (omega arith) ∙ ap (sum_below (load_before rows charge x)) last
 
 load_cond : (b : Bool) (n m : Timing → ℕ) (o : Option Figures) (c : ℕ) → load (λ w. cond b (n w) (m w)) o c ≡ cond b (load n o c) (load m o c)
 load_cond true n m o c = refl
@@ -71,33 +104,60 @@ module _ (q : Question) (ok : Proper q) (none : q.rows 0 ≡ None) (within : q.t
       (fun_ext (λ k. fun_ext (λ s. ap₂ (λ (m n : ℕ). m + k * q.own.c + n) is (sym (above_through s)))))
       (fun_ext (λ k. fun_ext (λ s. fun_ext (λ x. ap₂ (λ (m n : ℕ). m + (k + 1) * q.own.c + n) is (sym (above_split s x))))))
 
--- a case whose parts were gathered for row i with blocker b in the column h, where t is the threshold of row i
-pub cased : (s : Sheet) (c : Charge) → Lawful c → (h : List ℕ) (i b : ℕ) (x : Case) → figures (Some x.own) ≡ table_of s i
-    → Within i (entry h i) → x.blocking ≡ contribution (table_of s) b → (t : ℕ) → t ≡ entry h i
-    → Gathered (table_of s) (charges_in c h i b) 1 t x.preempting → Gathered (table_of s) (charges_in c h i b) t i x.others
-    → CaseOf (question (table_of s) c h i b (own_timing x)) x
-cased s c laws h i b x row range same t is first rest =
-    let q : Question = question (table_of s) c h i b (own_timing x) in
-    let first' = subst (λ (n : ℕ). Gathered (table_of s) (charges_in c h i b) 1 n x.preempting) is first in
-    let rest' = subst (λ (n : ℕ). Gathered (table_of s) (charges_in c h i b) n i x.others) is rest in
-    record {
-      equations = equations_split q (proper (table_of s) (sound_table s) c laws h i b _ (sym row)) refl range.1 (ticks_of x.preempting) (ticks_of x.others) first'.ticks rest'.ticks x.blocking same;
-      own = refl;
-      cheap = affordable q refl (cheap_join (table_of s) (charges_in c h i b) (entry h i) i first'.cheap rest'.cheap);
-    }
-
--- what is found in a case is the outcome of its question
-pub case_regular : (q : Question) → Proper q → (x : Case) → CaseOf q x → Regular (equations_of x) (own_timing x)
-case_regular q ok x is =
-    subst (λ (w : Timing). Regular (equations_of x) w) (sym is.own) (subst (λ (e : Equations). Regular e q.own) (sym is.equations) (regular q ok))
-
 jobs_judged : (q : Question) → Affordable q → (v : Verdict) → JobsJudged (equations q) q.own v → Judged q v
 jobs_judged q cheap (overcharged j) x = absurd x
 jobs_judged q cheap no_period x = (cheap, x)
 jobs_judged q cheap (late k r) x = (cheap, x)
 jobs_judged q cheap (passes r) x = (cheap, x)
 
-pub case_judged : (q : Question) (x : Case) → CaseOf q x → (v : Verdict) → JobsJudged (equations_of x) (own_timing x) v → Judged q v
-case_judged q x is v y =
-    jobs_judged q is.cheap v
-    (subst (λ (e : Equations). JobsJudged e q.own v) is.equations (subst (λ (w : Timing). JobsJudged (equations_of x) w v) is.own y))
+-- ---- a case whose sources were gathered for row i with blocker b in the column h
+module _ (s : Sheet) (c : Charge) (laws : Lawful c) (h : List ℕ) (i b : ℕ) (own : Row) (row : figures (Some own) ≡ table_of s i) (fits : Fits (table_of s) h) where
+  abbrev figured : Figures
+  figured = record { timing = timing_of own.timing; limit = own.«cap».0 }
+
+  -- the threshold is from 1 to i
+  threshold_within : Within i (entry h i)
+  threshold_within =
+      let range : InRange i figured = sound_table s i figured (sym row) in
+      let fit : fits_row (table_of s) i (entry h i) (Some figured) ≡ true = subst (λ (o : Option Figures). fits_row (table_of s) i (entry h i) o ≡ true) (sym row) (fits i range.priority) in
+      let parts = and_parts _ _ (and_parts _ _ fit).1 in
+      (le_trans range.capped.0 (leb-true _ _ parts.0), leb-true _ _ parts.1)
+
+  abbrev q : Question
+  q = question (table_of s) c h i b (timing_of own.timing)
+
+  abbrev ok : Proper q
+  ok = proper (table_of s) (sound_table s) c laws h i b figured (sym row)
+
+  module _ (xs : List (Option Source)) (all : Gathered (table_of s) (charges_in c h i b) i xs) where
+    abbrev ys : List (Option Source)
+    ys = take (i - 1) xs
+
+    long : length ys ≡ i - 1
+    long = length-take-le (i - 1) xs (let r = (sound_table s i figured (sym row)).priority in omega (arith, all.long, r.1))
+
+    each : (j : ℕ) → 1 ≤ j → j < i → SourceOf (table_of s j) (c i b j h) (get_or ys (j - 1) None)
+    each j l u =
+        let r = (sound_table s i figured (sym row)).priority in
+        subst (λ (o : Option Source). SourceOf (table_of s j) (c i b j h) o) (sym (get_or-take (i - 1) xs (j - 1) None (omega arith))) (all.each j (l, omega (arith, r.1)) u)
+
+    module _ (K t : ℕ) (pre others : List (Option Source)) (same : K ≡ contribution (table_of s) b) (is : t ≡ entry h i)
+        (front : pre ≡ take (t - 1) ys) (back : others ≡ drop (t - 1) ys) where
+      -- its equations are those of the question
+      case_equations : equations_in own K pre others ≡ equations q
+      unfolding ticks_of
+      case_equations =
+          let w = threshold_within in
+          let charge = charges_in c h i b in
+          let first : (x : ℕ) → ticks_of pre x + sum_below (load_before (table_of s) charge x) 1 ≡ sum_below (load_before (table_of s) charge x) (entry h i) =
+          λ x. rw front (ticks_to (table_of s) charge i ys long each x (t - 1) (omega (arith, w.0, w.1, is)) ∙ ap (sum_below (load_before (table_of s) charge x)) (let e : t - 1 + 1 ≡ entry h i = omega (arith, w.0, is) in e)) in
+          let all_ticks : (x : ℕ) → ticks_of pre x + ticks_of others x ≡ ticks_of ys x = λ x. rw (front, back) (sum_by-take-drop (source_ticks x) ys (t - 1)) in
+          equations_split q ok refl w.1 (ticks_of pre) (ticks_of others) first
+          (λ x. omega (arith, first x, all_ticks x, ticks_all (table_of s) charge i ys long each x (omega (arith, w.0, w.1)))) K same
+
+      pub case_regular : Regular (equations_in own K pre others) (timing_of own.timing)
+      case_regular = subst (λ (e : Equations). Regular e (timing_of own.timing)) (sym case_equations) (regular q ok)
+
+      -- what is found in it is the outcome of the question
+      pub case_judged : (v : Verdict) → JobsJudged (equations_in own K pre others) (timing_of own.timing) v → Judged q v
+      case_judged v y = jobs_judged q (affordable q refl all.cheap) v (subst (λ (e : Equations). JobsJudged e (timing_of own.timing) v) case_equations y)

@@ -1,5 +1,5 @@
-pub mod Sources
-pub mod Gathering
 pub mod Casing
+pub mod Gathering
+pub mod Solving
 pub mod Testing
-pub mod Owning
+pub mod Filling

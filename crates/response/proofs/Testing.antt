@@ -1,10 +1,10 @@
 -- Refusals of the tests, and pairs of row and blocker one by one.
-use Rattle.std.proofs.Common.{◌≡◌, ℕ, ◌+◌, ◌-◌, true, false, leb, List, length, Some, None, Ok, Err, Option, Result, sym, ap, ◌∙◌, subst, inl, inr, arith, length-set}
-use Rattle.std.proofs.lemmas.Bool.{false≢true, both_ways, cases_eq, cond-true, le-leb}
+use Rattle.std.proofs.Common.{◌≡◌, ℕ, ◌+◌, ◌-◌, true, leb, List, length, Some, None, Ok, Err, Option, Result, sym, ap, ◌∙◌, subst, inl, inr, arith, length-set}
+use Rattle.std.proofs.lemmas.Bool.{false≢true, cases_eq, cond-true, le-leb}
 use Rattle.names.specs.declared.refusal.Refusal as program
 use Rattle.names.specs.Refusals.{fault_of}
 use Rattle.sheet.specs.declared.row.Row.{Row}
-use Rattle.theory.specs.Columns.{put, may_block, ColumnAnswer}
+use Rattle.theory.specs.Columns.{put, ColumnAnswer}
 use Rattle.theory.specs.Delays.{Charge}
 use Rattle.theory.specs.Edits.{unless}
 use Rattle.theory.specs.Figures.{Table, Fault, fault, is_row, priorities, within}
@@ -58,9 +58,6 @@ module _ (rows : Table) (c : Charge) (h : List ℕ) (i b : ℕ) (so_far : Passes
         | inl z ↦ subst (λ (n : ℕ). PairPasses rows c h k n) (sym z) (subst (λ (n : ℕ). PairPasses rows c h n b) (sym e) here)
         | inr ne ↦ so_far k a (inr (e, omega arith))
       ]
-
-  pub pairs_skip : may_block h b i ≡ false → PassesTo rows c h i (b + 1)
-  pairs_skip no_block = pairs_more (λ there blocks. absurd (both_ways (may_block h b i) no_block blocks))
 
   pub pairs_pass : (v : Verdict) → RowOutcome rows c h i b v → passed v ≡ true → PassesTo rows c h i (b + 1)
   pairs_pass v x e = pairs_more (λ there blocks. passes_from (RowOutcome rows c h i b) v x e)

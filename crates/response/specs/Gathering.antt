@@ -1,55 +1,47 @@
 -- How the rows above are gathered, with their prices.
-use Rattle.std.specs.Prelude.{◌≡◌, ℕ, ◌+◌, ◌<◌, ◌≤◌, true, List, Ok, Err, Result}
+use Rattle.std.specs.Prelude.{◌≡◌, ℕ, ◌+◌, ◌-◌, ◌<◌, ◌≤◌, true, List, length, Some, None, Ok, Err, Option, Result, slice_index_or}
 use Rattle.names.specs.declared.Priority.{Priority}
-use Rattle.theory.specs.Arrivals.{before}
+use Rattle.sheet.specs.Views.{figures}
 use Rattle.theory.specs.Delays.{Charge, too_much}
-use Rattle.theory.specs.Equations.{Question, equations, load, sum_below}
-use Rattle.theory.specs.Figures.{Table, is_row}
-use Rattle.theory.specs.Outcomes.{overcharged, Affordable, Judged}
-use Rattle.response.specs.declared.case.Case.{Case}
-use Rattle.response.specs.declared.source.Interference.{Interference}
-use Rattle.response.specs.Cases.{own_timing, equations_of}
-use Rattle.response.specs.Ticks.{ticks_of}
+use Rattle.theory.specs.Figures.{Figures, Table, is_row, priorities, Within}
+use Rattle.response.specs.declared.source.Source.{Source}
 
 -- the charge for each row j, while row i is judged with blocker b in the column h
 abbrev pub charges_in : Charge → List ℕ → ℕ → ℕ → ℕ → ℕ
 charges_in c h i b j = c i b j h
-
--- the ticks of row j for the jobs that it releases before x
-abbrev pub load_before : Table → (ℕ → ℕ) → ℕ → ℕ → ℕ
-load_before rows charge x j = load (λ w. before w x) (rows j) (charge j)
 
 -- row j is there, and is charged too much
 pub record TooDear (rows : Table) (charge : ℕ → ℕ) (j : ℕ) : Type 0 where
   pub row : is_row (rows j) ≡ true
   pub top : charge j ≡ too_much
 
--- no row from lo to below hi is charged too much
-abbrev pub NoneDear : Table → (ℕ → ℕ) → ℕ → ℕ → Type 0
-NoneDear rows charge lo hi = (j : ℕ) → lo ≤ j → j < hi → TooDear rows charge j → ⊥
+-- no row from 1 to below hi is charged too much
+abbrev pub NoneDear : Table → (ℕ → ℕ) → ℕ → Type 0
+NoneDear rows charge hi = (j : ℕ) → 1 ≤ j → j < hi → TooDear rows charge j → ⊥
 
--- r has the rows from lo to below hi
-pub record Gathered (rows : Table) (charge : ℕ → ℕ) (lo hi : ℕ) (r : Interference) : Type 0 where
-  pub ticks : (x : ℕ) → ticks_of r x + sum_below (load_before rows charge x) lo ≡ sum_below (load_before rows charge x) hi
-  pub cheap : NoneDear rows charge lo hi
+-- the source of a row with a charge: the price of a job is its run time and the charge; none where no row is
+abbrev pub SourceOf : Option Figures → ℕ → Option Source → Type 0
+SourceOf row charge None = row ≡ None
+SourceOf row charge (Some s) = (figures (Some s.row) ≡ row) × (s.price ≡ s.row.timing.run_time + charge)
 
--- p is the most urgent row from lo to below hi that is charged too much
-pub record FirstDear (rows : Table) (charge : ℕ → ℕ) (lo hi p : ℕ) : Type 0 where
-  pub from : lo ≤ p
+-- what is found at priority j: its source, or that its row is charged too much
+abbrev pub Sourced : Table → (ℕ → ℕ) → ℕ → Result (Option Source) Priority → Type 0
+Sourced rows charge j (Ok s) = SourceOf (rows j) (charge j) s × (TooDear rows charge j → ⊥)
+Sourced rows charge j (Err p) = (p.0 ≡ j) × TooDear rows charge j
+
+-- the list has the source of each row from 1 to below hi, the first that of priority 1, and none is charged too much
+pub record Gathered (rows : Table) (charge : ℕ → ℕ) (hi : ℕ) (sources : List (Option Source)) : Type 0 where
+  pub long : length sources ≡ priorities
+  pub each : (j : ℕ) → Within priorities j → j < hi → SourceOf (rows j) (charge j) (slice_index_or sources (j - 1) None)
+  pub cheap : NoneDear rows charge hi
+
+-- p is the most urgent row from 1 to below hi that is charged too much
+pub record FirstDear (rows : Table) (charge : ℕ → ℕ) (hi p : ℕ) : Type 0 where
+  pub from : 1 ≤ p
   pub to : p < hi
   pub dear : TooDear rows charge p
-  pub first : NoneDear rows charge lo p
+  pub first : NoneDear rows charge p
 
-abbrev pub Gathers : Table → (ℕ → ℕ) → ℕ → ℕ → Result Interference Priority → Type 0
-Gathers rows charge lo hi (Ok r) = Gathered rows charge lo hi r
-Gathers rows charge lo hi (Err p) = FirstDear rows charge lo hi p.0
-
--- the case of a question
-pub record CaseOf (q : Question) (x : Case) : Type 0 where
-  pub equations : equations_of x ≡ equations q
-  pub own : own_timing x ≡ q.own
-  pub cheap : Affordable q
-
-abbrev pub Cased : Question → Result Case Priority → Type 0
-Cased q (Ok x) = CaseOf q x
-Cased q (Err p) = Judged q (overcharged p.0)
+abbrev pub Gathers : Table → (ℕ → ℕ) → ℕ → Result (List (Option Source)) Priority → Type 0
+Gathers rows charge hi (Ok sources) = Gathered rows charge hi sources
+Gathers rows charge hi (Err p) = FirstDear rows charge hi p.0

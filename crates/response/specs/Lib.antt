@@ -1,5 +1,7 @@
 pub mod Ticks
 pub mod Verdicts
+pub mod Demands
+pub mod Solving
 pub mod Cases
 pub mod Gathering
 pub mod Testing

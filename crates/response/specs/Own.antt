@@ -1,5 +1,5 @@
 -- The outcomes in the column of own priorities.
-use Rattle.std.specs.Prelude.{◌≡◌, ℕ, ◌-◌, ◌<◌, false, List, Some, None, Option, slice_index_or}
+use Rattle.std.specs.Prelude.{◌≡◌, ℕ, ◌-◌, false, List, Some, None, Option, slice_index_or}
 use Rattle.theory.specs.Columns.{blocks, OwnColumn}
 use Rattle.theory.specs.Delays.{Charge}
 use Rattle.theory.specs.Figures.{Table, Within, priorities}
@@ -11,10 +11,6 @@ use Rattle.response.specs.Verdicts.{verdict_of}
 abbrev pub OutcomeAt : Table → Charge → List ℕ → ℕ → Option Outcome → Type 0
 OutcomeAt rows c h p None = rows p ≡ None
 OutcomeAt rows c h p (Some o) = RowOutcome rows c h p 0 (verdict_of o)
-
--- the outcomes of rows 1 to n - 1 in the column h
-abbrev pub OutcomesTo : Table → Charge → List ℕ → List (Option Outcome) → ℕ → Type 0
-OutcomesTo rows c h outcomes n = (p : ℕ) → Within priorities p → p < n → OutcomeAt rows c h p (slice_index_or outcomes (p - 1) None)
 
 -- The outcome of each row in the column of own priorities, the first that of priority 1. No row of it has a blocker.
 pub record OwnOutcomes (rows : Table) (c : Charge) (outcomes : List (Option Outcome)) : Type 0 where

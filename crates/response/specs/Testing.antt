@@ -10,13 +10,20 @@ use Rattle.theory.specs.Edits.{unless}
 use Rattle.theory.specs.Figures.{Table, Fault, is_row, priorities, within}
 use Rattle.theory.specs.Outcomes.{Verdict}
 use Rattle.theory.specs.Tests.{PairPasses, Earlier}
+use Rattle.delay.specs.Blockers.{blocker_of}
 use Rattle.response.specs.declared.outcome.Outcome.{Outcome}
 use Rattle.response.specs.Verdicts.{verdict_of}
 
 -- the first failure that a column test finds: row, blocker and outcome
-abbrev pub failure_of : Option (Priority × ℕ × Outcome) → Option (ℕ × ℕ × Verdict)
+abbrev pub failure_of : Option (Priority × Option Priority × Outcome) → Option (ℕ × ℕ × Verdict)
 failure_of None = None
-failure_of (Some (p, b, o)) = Some (p.0, b, verdict_of o)
+failure_of (Some (p, b, o)) = Some (p.0, blocker_of b, verdict_of o)
+
+-- a failure names a blocker only where there is one
+abbrev pub BlockerNamed : Option (Priority × Option Priority × Outcome) → Type 0
+BlockerNamed None = Unit {0}
+BlockerNamed (Some (p, None, o)) = Unit {0}
+BlockerNamed (Some (p, Some b, o)) = 1 ≤ b.0
 
 -- ---- inside the crate
 

@@ -3,11 +3,12 @@
 
 mod case;
 mod checks;
-mod gather;
-mod interference;
 pub mod laws;
 pub mod outcome;
 pub mod own;
+mod setting;
+mod solve;
 mod source;
 pub mod tests;
+mod ticks;
 pub mod trial;

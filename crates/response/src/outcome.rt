@@ -4,6 +4,7 @@ ghost use Rattle.response.specs.Verdicts.{verdict_of};
 
 use names::Priority;
 
+// Four outcomes of one standing, in the order in which they apply, and no `Result`: none is an error of the test.
 /// What a row test finds, the first of these that applies. Jobs are counted from 0, and responses are in ticks.
 #[derive(Clone, Copy, PartialEq, Eq, Debug)]
 pub enum Outcome {
@@ -18,6 +19,7 @@ pub enum Outcome {
 }
 
 impl Outcome {
+    // A number, since it is told to programs that know no Rust.
     /// The outcomes in their order, from 1.
     pub fn number(self) -> u8
         ensures { result ≡ verdict_number (verdict_of self) }
@@ -25,20 +27,14 @@ impl Outcome {
         match self {
             Outcome::TooMuch(_) => 1,
             Outcome::NoPeriod => 2,
-            Outcome::Late {
-                job: _,
-                response: _,
-            } => 3,
-            Outcome::Passes { response: _ } => 4,
+            Outcome::Late { .. } => 3,
+            Outcome::Passes { .. } => 4,
         }
     }
 
     pub fn passes(self) -> bool
         ensures { result ≡ passed (verdict_of self) }
     {
-        match self {
-            Outcome::Passes { response: _ } => true,
-            _ => false,
-        }
+        matches!(self, Outcome::Passes { .. })
     }
 }

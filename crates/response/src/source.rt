@@ -9,11 +9,3 @@ pub struct Source {
     pub price: u32,
     ghost price_top: { price ≤ 17825790 },
 }
-
-/// Some of the rows above, the first `len` of `sources`.
-#[derive(Drop)]
-pub struct Interference {
-    pub sources: [Source; 32],
-    pub len: usize,
-    ghost few: { len ≤ 32 },
-}

@@ -3,7 +3,7 @@ ghost use Rattle.names.specs.Refusals.{refused};
 ghost use Rattle.sheet.specs.Views.{table_of};
 ghost use Rattle.theory.specs.Columns.{put};
 ghost use Rattle.theory.specs.Tests.{TrialRefusal, Found};
-ghost use Rattle.response.specs.Testing.{failure_of};
+ghost use Rattle.response.specs.Testing.{BlockerNamed, failure_of};
 
 use super::checks::row_at;
 use super::tests::{Failure, column_test};
@@ -52,9 +52,10 @@ pub fn trial<M: DelayModel>(
     ensures kept { column.new ≡ column.old }
     ensures refusal { TrialRefusal (table_of sheet.now) column.old p.0 q.0 (refused result) }
     ensures finding { IfOk result (λ f. Found (table_of sheet.now) (M.charge model.now) (put column.old p.0 q.0) (failure_of f)) }
+    ensures named { IfOk result BlockerNamed }
 {
     row_at(sheet, column, p)?;
-    let at = p.0 as usize - 1;
+    let at = p.index()?;
     let old = column[at];
     let guard = Replaced { column, at, old };
     guard.column[at] = q.0;

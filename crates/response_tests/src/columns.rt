@@ -13,10 +13,15 @@ fn the_first_failure_of_a_column(rt: HostRuntime) -> Result<(), Fail> {
     let late = |job, response| Outcome::Late { job, response };
     for (first, second, column, expected) in [
         (50, 90, [1, 2, 0], None),
-        (50, 85, [1, 2, 0], Some((Priority(2), 0, late(2, 86)))),
-        (61, 90, [1, 1, 0], Some((Priority(1), 2, late(0, 62)))),
+        (50, 85, [1, 2, 0], Some((Priority(2), None, late(2, 86)))),
+        (
+            61,
+            90,
+            [1, 1, 0],
+            Some((Priority(1), Some(Priority(2)), late(0, 62))),
+        ),
         (62, 90, [1, 1, 0], None),
-        (19, 85, [1, 2, 0], Some((Priority(1), 0, late(0, 20)))),
+        (19, 85, [1, 2, 0], Some((Priority(1), None, late(0, 20)))),
     ] {
         let sheet = sheet_of(&[(20, 50, first), (42, 70, second)])?;
         assert_eq!(rt;
@@ -34,7 +39,7 @@ fn a_trial_leaves_the_column_as_it_was(rt: HostRuntime) -> Result<(), Fail> {
     let mut column = own;
     let failure = (
         Priority(1),
-        2,
+        Some(Priority(2)),
         Outcome::Late {
             job: 0,
             response: 62,

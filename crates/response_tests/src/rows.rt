@@ -1,11 +1,12 @@
 ghost use Rattle.std.specs.Prelude.{◌==◌, if◌then◌else◌};
 ghost use Rattle.std.proofs.Common.{rules};
 
-use super::sheets::{column_of, sheet_of};
+use super::sheets::{alone, blocked, column_of, sheet_of};
 use blocks::map::BlockMap;
 use blocks::sets::CacheSets;
 use delay::map_model::MapModel;
 use delay::model::{DelayModel, NoDelay, TOO_MUCH};
+use delay::question::Question;
 use delay::reckoning::Reckoning;
 use names::Priority;
 use names::refusal::Refusal;
@@ -36,12 +37,9 @@ fn the_greatest_response_and_the_first_late_job(rt: HostRuntime) -> Result<(), F
         ),
     ] {
         let sheet = sheet_of(&[(20, 50, 50), (42, 70, deadline)])?;
+        assert_eq!(rt; row_test(&sheet, &NoDelay, &own, alone(2)), Ok(expected));
         assert_eq!(rt;
-            row_test(&sheet, &NoDelay, &own, Priority(2), 0),
-            Ok(expected)
-        );
-        assert_eq!(rt;
-            row_test(&sheet, &NoDelay, &own, Priority(1), 0),
+            row_test(&sheet, &NoDelay, &own, alone(1)),
             Ok(Outcome::Passes { response: 20 })
         );
     }
@@ -52,9 +50,9 @@ fn the_greatest_response_and_the_first_late_job(rt: HostRuntime) -> Result<(), F
 fn a_blocker_holds_the_row_off(rt: HostRuntime) -> Result<(), Fail> {
     let sheet = sheet_of(&[(20, 50, 62), (42, 70, 90)])?;
     let strong = column_of([1, 1, 0]);
-    for (i, b, response) in [(1, 0, 20), (1, 2, 62), (2, 0, 62)] {
+    for (pair, response) in [(alone(1), 20), (blocked(1, 2), 62), (alone(2), 62)] {
         assert_eq!(rt;
-            row_test(&sheet, &NoDelay, &strong, Priority(i), b),
+            row_test(&sheet, &NoDelay, &strong, pair),
             Ok(Outcome::Passes { response })
         );
     }
@@ -66,11 +64,11 @@ fn a_processor_that_is_full_above(rt: HostRuntime) -> Result<(), Fail> {
     let sheet = sheet_of(&[(10, 10, 10), (1, 100, 100)])?;
     let own = column_of([1, 2, 0]);
     assert_eq!(rt;
-        row_test(&sheet, &NoDelay, &own, Priority(1), 0),
+        row_test(&sheet, &NoDelay, &own, alone(1)),
         Ok(Outcome::Passes { response: 10 })
     );
     assert_eq!(rt;
-        row_test(&sheet, &NoDelay, &own, Priority(2), 0),
+        row_test(&sheet, &NoDelay, &own, alone(2)),
         Ok(Outcome::NoPeriod)
     );
     Ok(())
@@ -89,7 +87,7 @@ fn a_reload_makes_a_row_late(rt: HostRuntime) -> Result<(), Fail> {
     };
     let sheet = sheet_of(&[(10, 100, 100), (20, 100, 100), (30, 100, 64)])?;
     assert_eq!(rt;
-        row_test(&sheet, &model, &column_of([1, 2, 3]), Priority(3), 0),
+        row_test(&sheet, &model, &column_of([1, 2, 3]), alone(3)),
         Ok(Outcome::Late {
             job: 0,
             response: 65
@@ -109,8 +107,12 @@ impl DelayModel for Dear {
 
     ghost bounded = { Prim.search rules };
 
-    fn charge_of(&self, _i: Priority, _b: u8, j: Priority, _column: &[u8]) -> u32 {
-        if j.0 == self.0 { TOO_MUCH } else { 0 }
+    fn charge_of(&self, question: &Question<'_>) -> u32 {
+        if question.preempting.0 == self.0 {
+            TOO_MUCH
+        } else {
+            0
+        }
     }
 }
 
@@ -123,10 +125,7 @@ fn a_row_above_is_charged_too_much(rt: HostRuntime) -> Result<(), Fail> {
         (2, Outcome::TooMuch(Priority(2))),
         (3, Outcome::Passes { response: 3 }),
     ] {
-        assert_eq!(rt;
-            row_test(&sheet, &Dear(dear), &own, Priority(3), 0),
-            Ok(expected)
-        );
+        assert_eq!(rt; row_test(&sheet, &Dear(dear), &own, alone(3)), Ok(expected));
     }
     Ok(())
 }
@@ -137,7 +136,7 @@ fn a_row_test_is_refused_by_the_smallest_number(rt: HostRuntime) -> Result<(), F
     let own = column_of([1, 2, 0]);
     let misfit = column_of([1, 3, 0]);
     assert_eq!(rt;
-        row_test(&sheet, &NoDelay, &own[0..31], Priority(0), 9),
+        row_test(&sheet, &NoDelay, &own[0..31], blocked(0, 9)),
         Err(Refusal::ListTooShort)
     );
     for (column, i, b, expected) in [
@@ -151,7 +150,7 @@ fn a_row_test_is_refused_by_the_smallest_number(rt: HostRuntime) -> Result<(), F
         (own, 2, 1, Refusal::NotBlocking(1)),
     ] {
         assert_eq!(rt;
-            row_test(&sheet, &NoDelay, &column, Priority(i), b),
+            row_test(&sheet, &NoDelay, &column, blocked(i, b)),
             Err(expected)
         );
     }

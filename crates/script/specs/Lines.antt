@@ -1,14 +1,12 @@
 -- What a line of text says: nothing, a call, or a mistake.
-use Rattle.std.specs.Prelude.{ℕ, cond, List, [], ◌∷◌, map, drop, Ok, Err, codes, Result}
+use Rattle.std.specs.Prelude.{ℕ, cond, List, [], ◌∷◌, map, drop, Some, None, Ok, Err, codes, Option, Result}
+use Rattle.std.specs.List.{filter_map}
 use Rattle.std.specs.Str.{bytes_eq}
 use Rattle.history.specs.declared.call.Call.{Call}
 use Rattle.history.specs.declared.call.Call.TheVariants.{Enter, Strike, Cap}
-use Rattle.script.specs.declared.line.Line.{Line}
-use Rattle.script.specs.declared.line.Line.TheVariants.{Blank, Asks, Wrong}
 use Rattle.script.specs.declared.line.Mistake.{Mistake}
-use Rattle.script.specs.declared.line.Mistake.TheVariants.{UnknownCall, TooFewArguments, TooManyArguments, NotANumber, TooLarge}
+use Rattle.script.specs.declared.line.Mistake.TheVariants.{UnknownCall, TooFewArguments, TooManyArguments, Argument}
 use Rattle.text.specs.declared.NumberFault.{NumberFault}
-use Rattle.text.specs.declared.NumberFault.TheVariants.{NotDigits, AboveTop}
 use Rattle.text.specs.Numbers.{number_in}
 use Rattle.text.specs.Text.{lines, words}
 
@@ -22,8 +20,7 @@ word_top = 4294967295
 -- argument k as it was read
 abbrev pub numbered : ℕ → Result ℕ NumberFault → Result ℕ Mistake
 numbered k (Ok n) = Ok n
-numbered k (Err NotDigits) = Err (NotANumber k)
-numbered k (Err AboveTop) = Err (TooLarge k)
+numbered k (Err e) = Err (Argument k e)
 
 -- argument k, which is the first of these words, as a number up to top
 abbrev pub argument : ℕ → ℕ → List (List ℕ) → Result ℕ Mistake
@@ -69,12 +66,16 @@ call_in v ws =
     (cond (bytes_eq v (codes "strike")) (strike_in ws)
     (cond (bytes_eq v (codes "cap")) (cap_in ws) (Err UnknownCall)))
 
+-- what a line may say: a call, None where it is blank, or a mistake
+abbrev pub Line : Type 0
+Line = Result (Option Call) Mistake
+
 abbrev pub said : Result Call Mistake → Line
-said (Ok x) = Asks x
-said (Err e) = Wrong e
+said (Ok x) = Ok (Some x)
+said (Err e) = Err e
 
 abbrev pub line_in : List (List ℕ) → Line
-line_in [] = Blank
+line_in [] = Ok None
 line_in (v ∷ ws) = said (call_in v ws)
 
 -- what a line says
@@ -85,13 +86,11 @@ line_of text = line_in (words text)
 abbrev pub script_of : List ℕ → List Line
 script_of text = map line_of (lines text)
 
--- a line's call in front of the others, if it says one
-abbrev pub asked : Line → List Call → List Call
-asked Blank cs = cs
-asked (Asks x) cs = x ∷ cs
-asked (Wrong e) cs = cs
+-- the call that a line says, if it says one
+abbrev pub asked : Line → Option Call
+asked (Ok x) = x
+asked (Err e) = None
 
 -- the calls among lines, in their order
-unfoldable pub calls_in : List Line → List Call
-calls_in [] = []
-calls_in (l ∷ ls) = asked l (calls_in ls)
+abbrev pub calls_in : List Line → List Call
+calls_in ls = filter_map asked ls

@@ -1,28 +1,29 @@
 -- What each line of a script comes to.
-use Rattle.std.specs.Prelude.{◌≡◌, ℕ, List, [], ◌∷◌, drop, Some, None, Option}
+use Rattle.std.specs.Prelude.{◌≡◌, ℕ, List, [], ◌∷◌, drop, Some, None, Ok, Err, Option, Result}
 use Rattle.std.specs.List.{slice_get}
 use Rattle.theory.specs.Figures.{Table}
 use Rattle.theory.specs.History.{Replayed}
-use Rattle.history.specs.declared.call.Answer.{Answer}
-use Rattle.history.specs.Calls.{edits_of, faults_in}
-use Rattle.script.specs.declared.line.Line.{Line}
-use Rattle.script.specs.declared.line.Line.TheVariants.{Blank, Asks, Wrong}
-use Rattle.script.specs.declared.line.Reply.{Reply}
-use Rattle.script.specs.declared.line.Reply.TheVariants.{Nothing, Answered, Mistaken}
-use Rattle.script.specs.Lines.{script_of, calls_in}
+use Rattle.history.specs.Calls.{Answer, edits_of, faults_in}
+use Rattle.script.specs.declared.answer.Answered.{Answered}
+use Rattle.script.specs.declared.line.Mistake.{Mistake}
+use Rattle.script.specs.Lines.{Line, script_of, calls_in}
+
+-- what a line comes to: a call with its answer, None where it is blank, or a mistake
+abbrev pub Reply : Type 0
+Reply = Result (Option Answered) Mistake
 
 -- a line's reply, where a is the next answer
 abbrev pub reply_for : Line → Option Answer → Reply
-reply_for Blank a = Nothing
-reply_for (Asks x) None = Nothing
-reply_for (Asks x) (Some a) = Answered x a
-reply_for (Wrong e) a = Mistaken e
+reply_for (Ok None) a = Ok None
+reply_for (Ok (Some x)) None = Ok None
+reply_for (Ok (Some x)) (Some a) = Ok (Some (record { call = x; answer = a }))
+reply_for (Err e) a = Err e
 
 -- the answers that are left for the lines after it
 abbrev pub left_after : Line → List Answer → List Answer
-left_after Blank answers = answers
-left_after (Asks x) answers = drop 1 answers
-left_after (Wrong e) answers = answers
+left_after (Ok None) answers = answers
+left_after (Ok (Some x)) answers = drop 1 answers
+left_after (Err e) answers = answers
 
 -- the replies to lines, of which those that ask a call have the answers in their order
 unfoldable pub replies_for : List Line → List Answer → List Reply

@@ -4,13 +4,15 @@ ghost use Rattle.std.specs.List.{slice_get};
 ghost use Rattle.script.specs.Lines.{script_of, calls_in};
 ghost use Rattle.script.specs.Replies.{reply_for, left_after, replies_for, Reported};
 
+use super::answer::Answered;
 use super::line::{Line, Reply};
 use super::parse::read_line;
 use history::call::{Answer, Call};
 use history::{Transcript, replay};
 use sheet::table::Sheet;
 use std::alloc::{AllocError, Global};
-use text::split_line;
+use std::slice::Iter;
+use text::Lines;
 
 /// What each line of a script comes to, and the sheet that its calls leave.
 #[derive(Drop)]
@@ -22,53 +24,38 @@ pub struct Report {
 fn read_lines(text: &[u8], heap: Global) -> Result<Vec<Line>, AllocError>
     ensures { IfOk result (λ v. v.items ≡ script_of text.now) }
 {
-    let mut said = Vec::new(heap);
-    let mut rest = text;
-    while let Some((line, after)) = split_line(rest) {
-        said.push(read_line(line))?;
-        rest = after;
-    }
-    Ok(said)
+    Lines(text).map(read_line).collect(heap)
 }
 
 fn calls_of(lines: &[Line], heap: Global) -> Result<Vec<Call>, AllocError>
     ensures { IfOk result (λ v. v.items ≡ calls_in lines.now) }
 {
-    let mut calls = Vec::new(heap);
-    for line in lines {
-        if let Line::Asks(call) = *line {
-            calls.push(call)?;
-        }
-    }
-    Ok(calls)
+    lines
+        .iter()
+        .filter_map(|line| line.ok().flatten())
+        .collect(heap)
 }
 
-// The reply to a line, and the answers that are left for the lines after it.
-fn reply_to(line: Line, answers: &[Answer]) -> (Reply, &[Answer])
-    ensures reply { result.0 ≡ reply_for line (slice_get answers.now 0) }
-    ensures rest { result.1.now ≡ left_after line answers.now }
+// The reply to a line, with the next answer where the line asks a call.
+fn reply_to(line: Line, answers: &mut Iter<Answer>) -> Reply
+    ensures reply { result ≡ reply_for line (slice_get answers.old.rest.now 0) }
+    ensures rest { answers.new.rest.now ≡ left_after line answers.old.rest.now }
 {
-    match line {
-        Line::Blank => (Reply::Nothing, answers),
-        Line::Asks(call) => {
-            if answers.is_empty() {
-                return (Reply::Nothing, answers);
-            }
-            (Reply::Answered(call, answers[0]), &answers[1..])
-        }
-        Line::Wrong(mistake) => (Reply::Mistaken(mistake), answers),
-    }
+    let Some(call) = line? else {
+        return Ok(None);
+    };
+    let answer = answers.next().copied();
+    Ok(answer.map(|answer| Answered { call, answer }))
 }
 
+// Two lists side by side: the replay answers calls, and only a line that asks a call has an answer.
 fn pair(lines: &[Line], answers: &[Answer], heap: Global) -> Result<Vec<Reply>, AllocError>
     ensures { IfOk result (λ v. v.items ≡ replies_for lines.now answers.now) }
 {
     let mut replies = Vec::new(heap);
-    let mut left = answers;
+    let mut left = answers.iter();
     for line in lines {
-        let (reply, rest) = reply_to(*line, left);
-        replies.push(reply)?;
-        left = rest;
+        replies.push(reply_to(*line, &mut left))?;
     }
     Ok(replies)
 }

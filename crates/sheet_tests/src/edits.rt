@@ -76,16 +76,13 @@ fn strike_and_cap_refuse_by_the_smallest_number(rt: HostRuntime) {
 
 // A column for rows at 2, 3 and 5, with entries after the 32nd, which nobody reads.
 fn column(fifth: u8, last: u8) -> [u8; 40] {
-    let mut column = [9; 40];
-    for i in 0..32 {
-        column[i] = match i {
-            1 | 2 => 2,
-            4 => fifth,
-            31 => last,
-            _ => 0,
-        };
-    }
-    column
+    std::array::from_fn(|i| match i {
+        1 | 2 => 2,
+        4 => fifth,
+        31 => last,
+        32.. => 9,
+        _ => 0,
+    })
 }
 
 #[test]

@@ -1,7 +1,6 @@
-use history::call::Answer;
 use names::Priority;
-use script::answer::{answer_line, mistake_line};
-use script::line::{Line, Reply};
+use script::answer::{Answered, Misread};
+use script::line::Reply;
 use script::parse::read_line;
 use script::run::run_script;
 use std::alloc::{AllocError, Global};
@@ -10,20 +9,19 @@ use std::test::Fail;
 // A reply as desk prints it, but for reasons; nothing for a blank line.
 fn shown(number: usize, reply: Reply, heap: Global) -> Result<String, AllocError> {
     match reply {
-        Reply::Nothing => String::from_str(heap, ""),
-        Reply::Answered(call, answer) => answer_line(call, answer, heap),
-        Reply::Mistaken(mistake) => mistake_line(number, mistake, heap),
+        Ok(None) => Ok(String::new(heap)),
+        Ok(Some(answered)) => answered.to_string(heap),
+        Err(mistake) => Misread { number, mistake }.to_string(heap),
     }
 }
 
 // A line as line 7, its call accepted.
 fn told(text: &[u8], heap: Global) -> Result<String, AllocError> {
-    let reply = match read_line(text) {
-        Line::Blank => Reply::Nothing,
-        Line::Asks(call) => Reply::Answered(call, Answer::Accepted),
-        Line::Wrong(mistake) => Reply::Mistaken(mistake),
+    let accepted = |call| Answered {
+        call,
+        answer: Ok(()),
     };
-    shown(7, reply, heap)
+    shown(7, read_line(text).map(|asked| asked.map(accepted)), heap)
 }
 
 #[test]
@@ -93,8 +91,8 @@ fn a_script(rt: HostRuntime) -> Result<(), Fail> {
         "capped 1 at 1",
     ];
     assert_eq!(rt; report.replies.len(), expected.len());
-    for (i, (reply, line)) in report.replies.iter().zip(expected.iter()).enumerate() {
-        let text = shown(i + 1, *reply, rt.alloc())?;
+    for (number, (reply, line)) in (1..).zip(report.replies.iter().zip(&expected)) {
+        let text = shown(number, *reply, rt.alloc())?;
         assert_eq!(rt; text.as_str(), *line);
     }
     assert!(rt; report.sheet.row(Priority(1)).is_some());

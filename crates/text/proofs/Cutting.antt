@@ -1,16 +1,33 @@
--- Cutting a line into words.
-use Rattle.std.proofs.Common.{◌≡◌, ℕ, zero, suc, ◌+◌, ◌<◌, ◌≤◌, min, Bool, true, false, cond, not, ◌||◌, List, [], ◌∷◌, length, get_or, take, drop, sym, refl, ap, ◌∙◌, le_of_suc-le-suc, not-suc-le-zero, arith, length-drop}
-use Rattle.std.proofs.lemmas.List.{get_or-drop, drop-drop}
+-- Cutting a text into lines, and a line into words.
+use Rattle.std.proofs.Common.{◌≡◌, ℕ, suc, ◌+◌, ◌-◌, ◌<◌, min, Bool, true, false, cond, not, ◌||◌, List, [], ◌∷◌, length, take, drop, sym, refl, ap, ◌∙◌, not-suc-le-zero, one-add, arith, length-drop}
+use Rattle.std.specs.List.{prefix_len}
+use Rattle.std.proofs.lemmas.Bool.{cond_both, cond-true, cond-false, or_parts, not-true}
 use Rattle.std.proofs.lemmas.Bool.Decides.{nat_tests}
 use Rattle.text.specs.Text.{in_front, line_end, lines, blank, hash, wordy, goes_on, words}
 
+-- a run that goes on by one element where v is true, and is over where it is not
+drop_run : (v : Bool) (n b : ℕ) (bs : List ℕ) → drop (cond v (1 + n) 0) (b ∷ bs) ≡ cond v (drop n bs) (b ∷ bs)
+drop_run true n b bs = rw one-add
+drop_run false n b bs = refl
+
+-- no element that passes follows a whole run of them
+run_over : (p : ℕ → Bool) (bs : List ℕ) → prefix_len p (drop (prefix_len p bs) bs) ≡ 0
+run_over p [] = refl
+run_over p (b ∷ bs) =
+    let n = prefix_len p bs in
+    ap (prefix_len p) (drop_run (p b) n b bs)
+    ∙ cond_both (p b) (drop n bs) (b ∷ bs) (λ (l : List ℕ). prefix_len p l ≡ 0) (λ h. run_over p bs) (λ h. cond-false (p b) (1 + n) 0 h)
+
+no_run : (v : Bool) (n : ℕ) → cond v (1 + n) 0 ≡ 0 → v ≡ false
+no_run true n h = absurd (omega arith)
+no_run false n h = refl
+
+some_run : (v : Bool) (n : ℕ) → 0 < cond v (1 + n) 0 → v ≡ true
+some_run true n h = refl
+some_run false n h = absurd (not-suc-le-zero h)
+
 blank_not_hash : (b : ℕ) → blank b ≡ true → hash b ≡ false
 blank_not_hash b h = grind (arith, nat_tests)
-
-no_part : (x y : Bool) → not (x || y) ≡ true → (x ≡ false) × (y ≡ false)
-no_part false false h = (refl, refl)
-no_part false true h = (refl, sym h)
-no_part true y h = (sym h, cc)
 
 second_part : (x y : Bool) → x ≡ false → not (x || y) ≡ false → y ≡ true
 second_part false true e h = refl
@@ -20,116 +37,91 @@ second_part true y e h = cc
 -- the cases of words at a byte
 at_blank : (b : ℕ) (bs : List ℕ) → blank b ≡ true → words (b ∷ bs) ≡ words bs
 unfolding words
-at_blank b bs h =
-    ap (λ (v : Bool). cond v [] (cond (blank b) (words bs) (cond (goes_on bs) (in_front b (words bs)) ((b ∷ []) ∷ words bs)))) (blank_not_hash b h)
-    ∙ ap (λ (v : Bool). cond v (words bs) (cond (goes_on bs) (in_front b (words bs)) ((b ∷ []) ∷ words bs))) h
+at_blank b bs h = cond-false (hash b) _ _ (blank_not_hash b h) ∙ cond-true (blank b) _ _ h
 
 at_hash : (b : ℕ) (bs : List ℕ) → hash b ≡ true → words (b ∷ bs) ≡ []
 unfolding words
-at_hash b bs h = ap (λ (v : Bool). cond v [] (cond (blank b) (words bs) (cond (goes_on bs) (in_front b (words bs)) ((b ∷ []) ∷ words bs)))) h
+at_hash b bs h = cond-true (hash b) _ _ h
 
 at_wordy : (b : ℕ) (bs : List ℕ) → wordy b ≡ true → words (b ∷ bs) ≡ cond (goes_on bs) (in_front b (words bs)) ((b ∷ []) ∷ words bs)
 unfolding words
-at_wordy b bs h =
-    let g = no_part (blank b) (hash b) h in
-    ap (λ (v : Bool). cond v [] (cond (blank b) (words bs) (cond (goes_on bs) (in_front b (words bs)) ((b ∷ []) ∷ words bs)))) g.1
-    ∙ ap (λ (v : Bool). cond v (words bs) (cond (goes_on bs) (in_front b (words bs)) ((b ∷ []) ∷ words bs))) g.0
+at_wordy b bs h = let g = or_parts (blank b) (hash b) (not-true (blank b || hash b) h) in cond-false (hash b) _ _ g.1 ∙ cond-false (blank b) _ _ g.0
 
 -- leading blanks belong to no word
-pub words_blanks : (text : List ℕ) (n : ℕ) → n ≤ length text → ((k : ℕ) → k < n → blank (get_or text k 0) ≡ true) → words text ≡ words (drop n text)
-words_blanks text zero l all = refl
-words_blanks [] (suc n) l all = absurd (not-suc-le-zero l)
-words_blanks (b ∷ bs) (suc n) l all =
-    at_blank b bs (all 0 (omega arith)) ∙ words_blanks bs n (le_of_suc-le-suc l) (λ k h. all (suc k) (omega arith))
+words_blanks : (text : List ℕ) → words text ≡ words (drop (prefix_len blank text) text)
+words_blanks [] = refl
+words_blanks (b ∷ bs) =
+    let n = prefix_len blank bs in
+    cond_both (blank b) (drop n bs) (b ∷ bs) (λ (l : List ℕ). words (b ∷ bs) ≡ words l) (λ h. at_blank b bs h ∙ words_blanks bs) (λ h. refl)
+    ∙ ap words (sym (drop_run (blank b) n b bs))
+
+-- a byte of a word, and those that follow it, before c where v is true
+word_goes_on : (v : Bool) (n b c : ℕ) (cs : List ℕ) → (v ≡ true → words (c ∷ cs) ≡ (c ∷ take n cs) ∷ words (drop n cs)) →
+    cond v (in_front b (words (c ∷ cs))) ((b ∷ []) ∷ words (c ∷ cs)) ≡ (b ∷ take (cond v (1 + n) 0) (c ∷ cs)) ∷ words (drop (cond v (1 + n) 0) (c ∷ cs))
+unfolding in_front
+word_goes_on true n b c cs h = rw one-add (ap (in_front b) (h refl))
+word_goes_on false n b c cs h = refl
+
+word_from : (b : ℕ) (bs : List ℕ) → wordy b ≡ true → words (b ∷ bs) ≡ (b ∷ take (prefix_len wordy bs) bs) ∷ words (drop (prefix_len wordy bs) bs)
+word_from b [] h = at_wordy b [] h
+word_from b (c ∷ cs) h = at_wordy b (c ∷ cs) h ∙ word_goes_on (wordy c) (prefix_len wordy cs) b c cs (word_from c cs)
 
 -- a text that begins with no blank and no byte of a word has no words
-pub words_none : (text : List ℕ) → (0 < length text → blank (get_or text 0 0) ≡ false) → (0 < length text → wordy (get_or text 0 0) ≡ false) → words text ≡ []
+words_none : (text : List ℕ) → prefix_len blank text ≡ 0 → prefix_len wordy text ≡ 0 → words text ≡ []
 unfolding words
 words_none [] b w = refl
-words_none (x ∷ xs) b w = at_hash x xs (second_part (blank x) (hash x) (b (omega arith)) (w (omega arith)))
+words_none (x ∷ xs) b w = at_hash x xs (second_part (blank x) (hash x) (no_run (blank x) (prefix_len blank xs) b) (no_run (wordy x) (prefix_len wordy xs) w))
 
-goes_on_at : (text : List ℕ) → 0 < length text → goes_on text ≡ wordy (get_or text 0 0)
-goes_on_at [] h = absurd (not-suc-le-zero h)
-goes_on_at (b ∷ bs) h = refl
+-- the bytes of a word that a text begins with are its first word
+words_first : (text : List ℕ) → 0 < prefix_len wordy text → words text ≡ take (prefix_len wordy text) text ∷ words (drop (prefix_len wordy text) text)
+words_first [] some = absurd (not-suc-le-zero some)
+words_first (b ∷ bs) some =
+    let n = prefix_len wordy bs in
+    let h = some_run (wordy b) n some in
+    let e : suc n ≡ cond (wordy b) (1 + n) 0 = sym (cond-true (wordy b) (1 + n) 0 h ∙ one-add n) in
+    word_from b bs h ∙ ap (λ (k : ℕ). take k (b ∷ bs) ∷ words (drop k (b ∷ bs))) e
 
-stops_at : (text : List ℕ) → (0 < length text → wordy (get_or text 0 0) ≡ false) → goes_on text ≡ false
-stops_at [] h = refl
-stops_at (b ∷ bs) h = h (omega arith)
-
--- n bytes of a word, and then none, are the first word
-pub words_first : (text : List ℕ) (n : ℕ) → 0 < n → n ≤ length text → ((k : ℕ) → k < n → wordy (get_or text k 0) ≡ true) →
-    (n < length text → wordy (get_or text n 0) ≡ false) → words text ≡ take n text ∷ words (drop n text)
-unfolding in_front
-words_first text zero pos l all stops = absurd (not-suc-le-zero pos)
-words_first [] (suc n) pos l all stops = absurd (not-suc-le-zero l)
-words_first (b ∷ bs) (suc zero) pos l all stops =
-    at_wordy b bs (all 0 (omega arith))
-    ∙ ap (λ (v : Bool). cond v (in_front b (words bs)) ((b ∷ []) ∷ words bs)) (stops_at bs (λ h. stops (omega arith)))
-words_first (b ∷ bs) (suc (suc m)) pos l all stops =
-    at_wordy b bs (all 0 (omega arith))
-    ∙ ap (λ (v : Bool). cond v (in_front b (words bs)) ((b ∷ []) ∷ words bs)) (goes_on_at bs (omega arith) ∙ all 1 (omega arith))
-    ∙ ap (in_front b) (words_first bs (suc m) (omega arith) (le_of_suc-le-suc l) (λ k h. all (suc k) (omega arith)) (λ h. stops (omega arith)))
-
--- A text cut after n leading blanks, and again after m bytes of a word.
-module _ (text : List ℕ) (n : ℕ) (start : List ℕ) (is : start ≡ drop n text) (within : n ≤ length text)
-    (blanks : (k : ℕ) → k < n → blank (get_or text k 0) ≡ true) (no_more : n < length text → blank (get_or text n 0) ≡ false) where
+-- A text cut after its leading blanks, and again after n bytes of a word.
+module _ (text start : List ℕ) (is : start ≡ drop (prefix_len blank text) text) (n : ℕ) (run : n ≡ prefix_len wordy start) where
   at_start : words text ≡ words start
-  at_start = words_blanks text n within blanks ∙ ap words (sym is)
+  at_start = words_blanks text ∙ ap words (sym is)
 
-  start_not_blank : 0 < length start → blank (get_or start 0 0) ≡ false
-  start_not_blank h =
-      let l = ap length is ∙ length-drop n text in
-      let e = get_or-drop n text 0 0 in
-      let z : n + 0 ≡ n = omega arith in
-      ap (λ (s : List ℕ). blank (get_or s 0 0)) is ∙ ap blank e ∙ ap (λ (k : ℕ). blank (get_or text k 0)) z ∙ no_more (omega arith)
+  pub cut_none : n ≡ 0 → words text ≡ []
+  cut_none h = at_start ∙ words_none start (ap (prefix_len blank) is ∙ run_over blank text) (sym run ∙ h)
 
-  pub cut_none : (0 < length start → wordy (get_or start 0 0) ≡ false) → words text ≡ []
-  cut_none h = at_start ∙ words_none start start_not_blank h
+  pub cut_first : (word rest : List ℕ) → 0 < n → word ≡ take n start → rest ≡ drop n start → words text ≡ word ∷ words rest
+  cut_first word rest some w r = rw (w, r, run) (at_start ∙ words_first start (rw run at some))
 
-  pub cut_first : (m : ℕ) (word rest : List ℕ) → 0 < m → m ≤ length start → ((k : ℕ) → k < m → wordy (get_or start k 0) ≡ true) →
-      (m < length start → wordy (get_or start m 0) ≡ false) → word ≡ take m start → rest ≡ drop m start → words text ≡ word ∷ words rest
-  cut_first m word rest pos l all stops w r =
-      at_start ∙ words_first start m pos l all stops
-      ∙ ap (λ (x : List ℕ). x ∷ words (drop m start)) (sym w) ∙ ap (λ (x : List ℕ). word ∷ words x) (sym r)
+-- the bytes of a line
+abbrev pub unended : ℕ → Bool
+unended b = not (line_end b)
 
-undo : (x y : Bool) → not x ≡ not y → x ≡ y
-undo true true e = refl
-undo true false e = sym e
-undo false true e = sym e
-undo false false e = refl
+-- a byte of a line, and those that follow it, unless v, which says that it is the line's end
+line_goes_on : (v : Bool) (n b : ℕ) (bs : List ℕ) → in_front b (lines bs) ≡ (b ∷ take n bs) ∷ lines (drop 1 (drop n bs)) →
+    cond v ([] ∷ lines bs) (in_front b (lines bs)) ≡ take (cond (not v) (1 + n) 0) (b ∷ bs) ∷ lines (drop 1 (drop (cond (not v) (1 + n) 0) (b ∷ bs)))
+line_goes_on true n b bs h = refl
+line_goes_on false n b bs h = rw one-add h
 
--- n bytes that end no line, and then a line end or nothing, are the first line
-pub lines_first : (text : List ℕ) (n : ℕ) → 0 < length text → n ≤ length text → ((k : ℕ) → k < n → not (line_end (get_or text k 0)) ≡ true) →
-    (n < length text → not (line_end (get_or text n 0)) ≡ false) → lines text ≡ take n text ∷ lines (drop (suc n) text)
+-- the bytes that a text begins with and that end no line are its first line
+line_from : (b : ℕ) (bs : List ℕ) → let n = prefix_len unended (b ∷ bs) in lines (b ∷ bs) ≡ take n (b ∷ bs) ∷ lines (drop 1 (drop n (b ∷ bs)))
 unfolding in_front lines
-lines_first [] n some l all stops = absurd (not-suc-le-zero some)
-lines_first (b ∷ bs) zero some l all stops = ap (λ (v : Bool). cond v ([] ∷ lines bs) (in_front b (lines bs))) (undo (line_end b) true (stops (omega arith)))
-lines_first (b ∷ []) (suc n) some l all stops =
-    let z : n ≡ 0 = omega arith in
-    ap (λ (v : Bool). cond v ([] ∷ lines []) (in_front b (lines []))) (undo (line_end b) false (all 0 (omega arith)))
-    ∙ ap (λ (m : ℕ). take (suc m) (b ∷ []) ∷ lines (drop (suc (suc m)) (b ∷ []))) (sym z)
-lines_first (b ∷ (c ∷ cs)) (suc n) some l all stops =
-    ap (λ (v : Bool). cond v ([] ∷ lines (c ∷ cs)) (in_front b (lines (c ∷ cs)))) (undo (line_end b) false (all 0 (omega arith)))
-    ∙ ap (in_front b) (lines_first (c ∷ cs) n (omega arith) (le_of_suc-le-suc l) (λ k h. all (suc k) (omega arith)) (λ h. stops (omega arith)))
+line_from b [] = line_goes_on (line_end b) 0 b [] refl
+line_from b (c ∷ cs) = line_goes_on (line_end b) (prefix_len unended (c ∷ cs)) b (c ∷ cs) (ap (in_front b) (line_from c cs))
 
 drop_one : (e : List ℕ) → drop (min (length e) 1) e ≡ drop 1 e
 drop_one [] = refl
 drop_one (x ∷ xs) = let z : min (suc (length xs)) 1 ≡ 1 = omega arith in ap (λ (k : ℕ). drop k (x ∷ xs)) z
 
 -- a text cut before and after its first line end
-module _ (text : List ℕ) (n : ℕ) (line end rest : List ℕ) (is : line ≡ take n text) (then : end ≡ drop n text) (after : rest ≡ drop (min (length end) 1) end) where
-  rest_is : rest ≡ drop (suc n) text
-  rest_is =
-      let z : n + 1 ≡ suc n = omega arith in
-      after ∙ drop_one end ∙ ap (drop 1) then ∙ drop-drop 1 n text ∙ ap (λ (k : ℕ). drop k text) z
+pub cut_line : (text line end rest : List ℕ) → 0 < length text → line ≡ take (prefix_len unended text) text → end ≡ drop (prefix_len unended text) text →
+    rest ≡ drop (min (length end) 1) end → lines text ≡ line ∷ lines rest
+cut_line [] line end rest some l e r = absurd (not-suc-le-zero some)
+cut_line (b ∷ bs) line end rest some l e r = rw (l, r, drop_one, e) (line_from b bs)
 
-  pub rest_shorter : 0 < length text → length rest < length text
-  rest_shorter some = let l = ap length rest_is ∙ length-drop (suc n) text in omega arith
-
-  pub cut_line : 0 < length text → n ≤ length text → ((k : ℕ) → k < n → not (line_end (get_or text k 0)) ≡ true) → (n < length text → not (line_end (get_or text n 0)) ≡ false) →
-      lines text ≡ line ∷ lines rest
-  cut_line some l all stops =
-      lines_first text n some l all stops ∙ ap (λ (x : List ℕ). x ∷ lines (drop (suc n) text)) (sym is) ∙ ap (λ (x : List ℕ). line ∷ lines x) (sym rest_is)
+pub rest_shorter : (text end rest : List ℕ) (n : ℕ) → 0 < length text → end ≡ drop n text → rest ≡ drop (min (length end) 1) end → length rest < length text
+rest_shorter text end rest n some e r =
+    let l = ap length (r ∙ drop_one end ∙ ap (drop 1) e) ∙ length-drop 1 (drop n text) ∙ ap (λ (k : ℕ). k - 1) (length-drop n text) in
+    omega arith
 
 pub no_lines : (text : List ℕ) → length text ≡ 0 → lines text ≡ []
 unfolding lines

@@ -1,5 +1,6 @@
 -- Lines, words and numbers in a text, which is a list of bytes.
-use Rattle.std.specs.Prelude.{ℕ, ◌+◌, ◌-◌, ◌*◌, Bool, true, false, cond, not, ◌&&◌, ◌||◌, List, [], ◌∷◌, ◌==◌, nat_le}
+use Rattle.std.specs.List.{list_all, fold}
+use Rattle.std.specs.Prelude.{ℕ, ◌+◌, ◌-◌, ◌*◌, Bool, false, cond, not, ◌&&◌, ◌||◌, List, [], ◌∷◌, ◌==◌, nat_le}
 
 abbrev pub line_end : ℕ → Bool
 line_end b = b == 10
@@ -39,11 +40,9 @@ words (b ∷ bs) = cond (hash b) [] (cond (blank b) (words bs) (cond (goes_on bs
 abbrev pub digit : ℕ → Bool
 digit b = nat_le 48 b && nat_le b 57
 
-unfoldable pub all_digits : List ℕ → Bool
-all_digits [] = true
-all_digits (b ∷ bs) = digit b && all_digits bs
+abbrev pub all_digits : List ℕ → Bool
+all_digits w = list_all digit w
 
 -- the number that digits spell after those that spell n
 unfoldable pub spelled : ℕ → List ℕ → ℕ
-spelled n [] = n
-spelled n (b ∷ bs) = spelled (n * 10 + (b - 48)) bs
+spelled n ds = fold (λ m b. m * 10 + (b - 48)) n ds

@@ -1,10 +1,14 @@
 // Lines, words and numbers in a text of bytes.
 #![tactic(auto)]
 
-ghost use Rattle.std.specs.Prelude.{◌≡◌, ℕ, ◌<◌, ◌≤◌, true, false, [], ◌∷◌, length, IfSome, MatchOption, slice_index};
-ghost use Rattle.text.specs.Classes.{in_class};
-ghost use Rattle.text.specs.Numbers.{number_in};
-ghost use Rattle.text.specs.Text.{lines, blank, words, digit, all_digits, spelled};
+ghost use Rattle.std.specs.Prelude.{◌≡◌, ℕ, ◌<◌, ◌≤◌, min, [], ◌∷◌, Bool, length, Some, IfSome, MatchOption};
+ghost use Rattle.std.specs.Iterator.{YieldsFirstRef, item_count};
+ghost use Rattle.std.specs.List.{prefix_len};
+ghost use Rattle.text.specs.Numbers.{number_in, fault_text};
+ghost use Rattle.text.specs.Text.{lines, blank, words, all_digits, spelled};
+
+use std::error::Error;
+use std::fmt;
 
 /// Why a word is not read as a number.
 #[derive(Clone, Copy, PartialEq, Eq, Debug)]
@@ -13,50 +17,42 @@ pub enum NumberFault {
     AboveTop,
 }
 
-// The bytes between words, those of words, and those of lines.
-#[derive(Clone, Copy)]
-enum Class {
-    Blank,
-    Word,
-    Line,
+impl fmt::Display for NumberFault {
+    ghost output = { λ e. Some (fault_text e) };
+
+    fn fmt<W: fmt::Write>(&self, f: &mut fmt::Formatter<W>) -> fmt::Result {
+        f.write_str(match self {
+            NumberFault::NotDigits => "not a whole number",
+            NumberFault::AboveTop => "too large",
+        })
+    }
 }
+
+impl Error for NumberFault {}
 
 fn is_blank(b: u8) -> bool
     ensures { result ≡ blank b }
 {
-    b == b' ' || b == b'\t' || b == b'\r'
+    matches!(b, b' ' | b'\t' | b'\r')
 }
 
-fn belongs(b: u8, class: Class) -> bool
-    ensures { result ≡ in_class class b }
-{
-    match class {
-        Class::Blank => is_blank(b),
-        Class::Word => !is_blank(b) && b != b'#',
-        Class::Line => b != b'\n',
-    }
-}
-
-// How many bytes of a class a text begins with.
-fn run_len(text: &[u8], class: Class) -> usize
+// How many bytes a text begins with that pass a test.
+fn run_len<F: Fn(u8) -> bool>(text: &[u8], passes: F) -> usize
+    ghost test: { ℕ → Bool }
+    requires callable { F.IsAlwaysCallable passes }
+    requires tests { (b : ℕ) (r : Bool) → F.post passes b r → r ≡ test b }
+    ensures run { result ≡ prefix_len test text.now }
     ensures within { result ≤ length text.now }
-    ensures all { (k : ℕ) → k < result → in_class class (slice_index text.now k) ≡ true }
-    ensures stops { result < length text.now → in_class class (slice_index text.now result) ≡ false }
 {
-    for (i, b) in text.iter().enumerate() {
-        if !belongs(*b, class) {
-            return i;
-        }
-    }
-    text.len()
+    text.iter().take_while(|b| passes(**b)).count()
 }
 
 /// The first word of a line and the text after it; none where only blanks and a comment are left.
 pub fn split_word(text: &[u8]) -> Option<(&[u8], &[u8])>
     ensures { MatchOption result (words text.now ≡ []) (λ x. words text.now ≡ x.0.now ∷ words x.1.now) }
 {
-    let (_, start) = text.split_at(run_len(text, Class::Blank));
-    let len = run_len(start, Class::Word);
+    let (_, start) = text.split_at(run_len(text, is_blank));
+    let len = run_len(start, |b| !is_blank(b) && b != b'#');
     if len == 0 {
         return None;
     }
@@ -71,41 +67,43 @@ pub fn split_line(text: &[u8]) -> Option<(&[u8], &[u8])>
     if text.is_empty() {
         return None;
     }
-    let (line, end) = text.split_at(run_len(text, Class::Line));
+    let (line, end) = text.split_at(run_len(text, |b| b != b'\n'));
     let (_, rest) = end.split_at(end.len().min(1));
     Some((line, rest))
 }
 
-fn is_digit(b: u8) -> bool
-    ensures { result ≡ digit b }
-{
-    b >= b'0' && b <= b'9'
+/// The lines of a text, one after the other.
+#[derive(Drop)]
+pub struct Lines<'a>(pub &'a [u8]);
+
+impl<'a> Iterator for Lines<'a> {
+    type Item = &'a [u8];
+
+    ghost next_gives = { YieldsFirstRef (λ s. lines s.0.now) };
+
+    ghost remaining = { item_count (λ s. lines s.0.now) };
+
+    fn next(&mut self) -> Option<&'a [u8]> {
+        let (line, rest) = split_line(self.0)?;
+        self.0 = rest;
+        Some(line)
+    }
 }
 
 fn is_number(word: &[u8]) -> bool
     ensures { result ≡ all_digits word.now }
 {
-    for b in word {
-        if !is_digit(*b) {
-            return false;
-        }
-    }
-    true
+    word.iter().all(u8::is_ascii_digit)
 }
 
-// The number that digits spell, unless it is above the top.
-fn number_within(word: &[u8], top: u32) -> Option<u32>
-    requires { all_digits word.now ≡ true }
-    ensures { MatchOption result (top < spelled 0 word.now) (λ n. (n ≡ spelled 0 word.now) × (n ≤ top)) }
+// The number that digits spell, or the greatest one where they spell more.
+fn saturated(word: &[u8]) -> u64
+    ensures { result ≡ min (spelled 0 word.now) u64.MAX }
 {
-    let mut n: u64 = 0;
-    for b in word {
-        n = n * 10 + (*b - b'0') as u64;
-        if n > top as u64 {
-            return None;
-        }
-    }
-    Some(n as u32)
+    word.iter().fold(0, |n: u64, b| {
+        n.saturating_mul(10)
+            .saturating_add(u64::from(b.saturating_sub(b'0')))
+    })
 }
 
 /// Reads a word as a decimal number that is not above the top.
@@ -115,5 +113,8 @@ pub fn read_number(word: &[u8], top: u32) -> Result<u32, NumberFault>
     if !is_number(word) {
         return Err(NumberFault::NotDigits);
     }
-    number_within(word, top).ok_or(NumberFault::AboveTop)
+    u32::try_from(saturated(word))
+        .ok()
+        .filter(|n| *n <= top)
+        .ok_or(NumberFault::AboveTop)
 }

@@ -1,5 +1,7 @@
 -- The laws of releases. Every other proof about periods rests on these, and none opens the two counts.
-use Rattle.std.proofs.Common.{◌≡◌, ℕ, zero, suc, ◌+◌, ◌-◌, ◌*◌, ◌/◌, ◌<◌, ◌≤◌, sym, ap, ◌∙◌, le_trans, le_of_eq, div-lt_iff_lt-mul, add-mul, mul-le-mul_left, le-div_iff_mul-le, mul-one, div-mul-le_self, arith}
+use Rattle.std.proofs.Common.{◌≡◌, ℕ, zero, suc, ◌+◌, ◌-◌, ◌*◌, ◌/◌, ◌%◌, ◌<◌, ◌≤◌, min, sym, ap, ◌∙◌, le_trans, le_of_eq, div-lt_iff_lt-mul, add-mul, mul-le-mul_left, le-div_iff_mul-le, mul-one, div-mul-le_self, arith}
+use Rattle.std.proofs.Math.Nat.{div-eq_of_lt-le}
+use Rattle.std.proofs.lemmas.Grind.{div_ceil_times}
 use native.Mathlib.Nat.{div-zero, add-div_right}
 use Rattle.theory.specs.Arrivals.{before, through}
 use Rattle.theory.specs.Figures.{Timing}
@@ -42,3 +44,11 @@ module _ (w : Timing) (apart : 1 ≤ w.t) where
 
   pub before-le : (x : ℕ) → before w x ≤ x
   before-le x = before_under x x (omega (arith, mul-le-mul_left x apart, mul-one x))
+
+  -- it is the time over the separation, rounded up
+  pub before_ceil : (x : ℕ) → x / w.t + min 1 (x % w.t) ≡ before w x
+  unfolding before
+  before_ceil x =
+      let k : ℕ = x / w.t + min 1 (x % w.t) in
+      let near = div_ceil_times x w.t apart in
+      sym (div-eq_of_lt-le {k = k} w.t (omega (arith, near.1)) (omega (arith, near.0, add-mul k 1 w.t)))

@@ -172,18 +172,21 @@ sharper m i b j h =
 pub nothing_lawful : Lawful (λ i b j h. 0)
 nothing_lawful = record { monotone = λ i b j g h le. omega arith; bounded = λ i b j h. omega arith }
 
+pub switched_monotone : (w : ℕ) (c : Charge) → ((i b j : ℕ) (g h : List ℕ) → NoGreater i b g h → c i b j g ≤ c i b j h) → (i b j : ℕ) (g h : List ℕ) → NoGreater i b g h → switched w c i b j g ≤ switched w c i b j h
+switched_monotone w c monotone i b j g h le =
+    let below = monotone i b j g h le in
+    let more = cond_mono (some_row (affected i b j g)) (some_row (affected i b j h)) w (some_affected_mono i b j g h le) in
+    elim (asked i b j) as (λ v. cond v (min (c i b j g + cond (some_row (affected i b j g)) w 0) too_much) 0 ≤ cond v (min (c i b j h + cond (some_row (affected i b j h)) w 0) too_much) 0)
+    [ true ↦ omega arith | false ↦ omega arith ]
+
+pub switched_bounded : (w : ℕ) (c : Charge) (i b j : ℕ) (h : List ℕ) → switched w c i b j h ≤ too_much
+switched_bounded w c i b j h =
+    elim (asked i b j) as (λ v. cond v (min (c i b j h + cond (some_row (affected i b j h)) w 0) too_much) 0 ≤ too_much)
+    [ true ↦ omega arith | false ↦ omega arith ]
+
 pub switched_lawful : (w : ℕ) (c : Charge) → Lawful c → Lawful (switched w c)
 switched_lawful w c laws =
-    record {
-      monotone = λ i b j g h le.
-          let below = laws.monotone i b j g h le in
-          let more = cond_mono (some_row (affected i b j g)) (some_row (affected i b j h)) w (some_affected_mono i b j g h le) in
-          elim (asked i b j) as (λ v. cond v (min (c i b j g + cond (some_row (affected i b j g)) w 0) too_much) 0 ≤ cond v (min (c i b j h + cond (some_row (affected i b j h)) w 0) too_much) 0)
-          [ true ↦ omega arith | false ↦ omega arith ];
-      bounded = λ i b j h.
-          elim (asked i b j) as (λ v. cond v (min (c i b j h + cond (some_row (affected i b j h)) w 0) too_much) 0 ≤ too_much)
-          [ true ↦ omega arith | false ↦ omega arith ];
-    }
+    record { monotone = switched_monotone w c laws.monotone; bounded = switched_bounded w c }
 
 module _ (w : ℕ) (c : Charge) (i b j : ℕ) (h : List ℕ) (in_range : asked i b j ≡ true) where
   pub switched_none : some_row (affected i b j h) ≡ false → c i b j h ≤ too_much → switched w c i b j h ≡ c i b j h

@@ -1,5 +1,5 @@
 -- Searches, maxima and counts over a run of numbers: one number more, and how they follow their tests.
-use Rattle.std.proofs.Common.{◌≡◌, ℕ, zero, suc, pred, ◌+◌, ◌<◌, ◌≤◌, max, Bool, true, false, cond, ◌||◌, sym, refl, ap, ◌∙◌, ap₂, ⊎_elim, add-zero, add-suc, add-one, arith}
+use Rattle.std.proofs.Common.{◌≡◌, ℕ, zero, suc, ◌+◌, ◌<◌, ◌≤◌, Bool, true, false, cond, ◌||◌, sym, refl, ap, ap₂, ⊎_elim, add-zero, add-suc, arith}
 use Rattle.std.proofs.lemmas.Bool.{both_ways, cases_Bool, true≢false, or_cases, or_left, or_right, or_from, cases_lt}
 use Rattle.theory.specs.Sets.{Sets, count_below, largest_to}
 use Rattle.theory.specs.Delays.{some_to}
@@ -12,22 +12,6 @@ cond_mono false true n f = omega arith
 cond_mono false false n f = omega arith
 
 module _ (test : ℕ → Bool) where
-  pub some_start : some_to test 0 ≡ false
-  unfolding some_to
-  some_start = refl
-
-  pub some_next : (k : ℕ) → 1 ≤ k → some_to test (pred (k + 1)) ≡ (test k || some_to test (pred k))
-  unfolding some_to
-  some_next zero l = let never : ⊥ = omega arith in absurd never
-  some_next (suc n) l = ap (λ (k : ℕ). some_to test (pred k)) (add-one (suc n))
-
-  -- nothing passes beyond n
-  pub some_beyond : (n m : ℕ) → ((k : ℕ) → n < k → test k ≡ false) → some_to test (n + m) ≡ some_to test n
-  unfolding some_to
-  some_beyond n zero none = ap (some_to test) (add-zero n)
-  some_beyond n (suc m) none =
-      ap (some_to test) (add-suc n m) ∙ ap (λ (v : Bool). v || some_to test (n + m)) (none (suc (n + m)) (omega arith)) ∙ some_beyond n m none
-
   pub some_none : (n : ℕ) → ((k : ℕ) → 1 ≤ k → k ≤ n → test k ≡ false) → some_to test n ≡ false
   unfolding some_to
   some_none zero never = refl
@@ -63,15 +47,6 @@ some_same p q (suc n) same =
     ap₂ ◌||◌ (same (suc n) (omega arith) (omega arith)) (some_same p q n (λ k l u. same k l (omega arith)))
 
 module _ (f : ℕ → ℕ) where
-  pub largest_start : largest_to f 0 ≡ 0
-  unfolding largest_to
-  largest_start = refl
-
-  pub largest_next : (k : ℕ) → 1 ≤ k → largest_to f (pred (k + 1)) ≡ max (largest_to f (pred k)) (f k)
-  unfolding largest_to
-  largest_next zero l = let never : ⊥ = omega arith in absurd never
-  largest_next (suc n) l = ap (λ (k : ℕ). largest_to f (pred k)) (add-one (suc n))
-
   pub largest-le : (top n : ℕ) → ((k : ℕ) → 1 ≤ k → k ≤ n → f k ≤ top) → largest_to f n ≤ top
   unfolding largest_to
   largest-le top zero each = omega arith

@@ -75,13 +75,6 @@ module _ (e : Equations) (w : Timing) (ok : Regular e w) where
       let b = finishes k a.0 j.length j.active j.among a.2 in
       (b.0 - k * w.t, record { start = a.0; finish = b.0; starts = a.1; finishes = b.1; is = refl })
 
-  -- an iteration for a start stays below the end of the active period, and one for a finish within it
-  pub start_below : (k l x : ℕ) → Period e l → k < before w l → Climbs 0 (e.start k) x → x < l
-  start_below k l x p b c = omega (arith, p.solves.from, c.under (l - 1) (omega arith) (ok.start_within k l p b))
-
-  pub finish_below : (k s l x : ℕ) → Period e l → k < before w l → s < l → Climbs 1 (e.finish k s) x → x ≤ l
-  finish_below k s l x p b lt c = c.under l p.solves.from (ok.finish_within k s l p b lt)
-
   -- the next start is a run time or more after the last one
   pub start_warm : (k s : ℕ) → Start e k s → Climbs 0 (e.start (k + 1)) (s + w.c)
   start_warm k s b =

@@ -22,12 +22,11 @@ impl BlockMap {
         if reload > RELOAD_TOP {
             return Err(Refusal::ReloadRange);
         }
-        let none = Footprint {
-            evicting: CacheSets::empty(),
-            useful: CacheSets::empty(),
-        };
-        let footprints = [none; 32];
-        Ok(BlockMap { reload, footprints })
+        let none = Footprint::default();
+        Ok(BlockMap {
+            reload,
+            footprints: [none; 32],
+        })
     }
 
     /// Gives a row other evicting and useful sets. Every useful one has to be evicting.
@@ -42,7 +41,7 @@ impl BlockMap {
     {
         let k = p.index()?;
         if let Some(s) = useful.first_outside(&evicting) {
-            return Err(Refusal::UsefulNotEvicting(s as u16));
+            return Err(Refusal::UsefulNotEvicting(s.into()));
         }
         self.footprints[k] = Footprint { evicting, useful };
         Ok(())

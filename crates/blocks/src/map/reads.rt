@@ -4,6 +4,7 @@ ghost use Rattle.theory.specs.Blocks.{reload_top};
 ghost use Rattle.blocks.specs.Members.{has};
 ghost use Rattle.blocks.specs.Views.{blocks_of};
 
+use super::super::footprint::Footprint;
 use super::super::sets::CacheSets;
 use super::BlockMap;
 use names::Priority;
@@ -21,10 +22,7 @@ impl BlockMap {
     pub fn evicting(&self, p: Priority) -> CacheSets
         ensures { SameSets (has result) ((blocks_of self.now).evicting p.0) }
     {
-        match p.index() {
-            Ok(k) => self.footprints[k].evicting,
-            Err(_) => CacheSets::empty(),
-        }
+        self.footprint_at(p).evicting
     }
 
     /// The useful sets at a priority; none outside 1 to 32.
@@ -32,10 +30,16 @@ impl BlockMap {
         ensures value { SameSets (has result) ((blocks_of self.now).useful p.0) }
         ensures nested { Inside cache_sets (has result) ((blocks_of self.now).evicting p.0) }
     {
-        match p.index() {
-            Ok(k) => self.footprints[k].useful,
-            Err(_) => CacheSets::empty(),
-        }
+        self.footprint_at(p).useful
+    }
+
+    fn footprint_at(&self, p: Priority) -> Footprint
+        ensures evicting { SameSets (has result.evicting) ((blocks_of self.now).evicting p.0) }
+        ensures useful { SameSets (has result.useful) ((blocks_of self.now).useful p.0) }
+        ensures nested { Inside cache_sets (has result.useful) (has result.evicting) }
+    {
+        p.index()
+            .map_or(Footprint::default(), |k| self.footprints[k])
     }
 
     /// Whether the row at a priority loads blocks into set s.

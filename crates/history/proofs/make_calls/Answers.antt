@@ -2,22 +2,19 @@ use Rattle.std.proofs.Common.{◌≡◌, ℕ, ◌+◌, ◌<◌, length, take, se
 use Rattle.std.proofs.lemmas.List.{take_more_set, drop-set-lt}
 use Rattle.theory.specs.History.{Replayed}
 use Rattle.sheet.specs.Views.{table_of}
-use Rattle.history.specs.declared.call.Call.{Call}
-use Rattle.history.specs.declared.call.Call.TheVariants.{Enter}
 use Rattle.history.specs.Calls.{edits_of, faults_in}
 use Rattle.history.proofs.Replaying.{one_more, all_made}
 use Rattle.history.proofs.make_calls.Goals as goal
 
 pub loop-i-preserved : goal.loop-i-preserved
 loop-i-preserved c =
-    let d : Call = Enter (record { 0 = 0 }) (record { run_time = 0; separation = 0; deadline = 0 }) in
     let calls = c.args.calls.now in
     let i = c.loop-i.i in
     let answers = c.loop-i.answers in
     let a = c.apply.result in
     let here : i < length calls = omega arith in
     let fits : i < length answers = omega arith in (
-      one_more calls i d (take i answers) (take (i + 1) (set answers i a)) a (table_of c.loop-i.sheet) (table_of c.apply.new.sheet)
+      one_more calls i _ (take i answers) (take (i + 1) (set answers i a)) a (table_of c.loop-i.sheet) (table_of c.apply.new.sheet)
           here c.loop-i.invariant.0 c.apply.ensures (take_more_set answers i a fits),
       drop-set-lt (length calls) answers i a here ∙ c.loop-i.invariant.1,
     )

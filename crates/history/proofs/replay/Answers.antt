@@ -2,8 +2,7 @@ use Rattle.std.proofs.Common.{◌≡◌, ◌≤◌, List, length, drop, sym, ◌
 use Rattle.std.proofs.lemmas.List.{take_all, take_at}
 use Rattle.theory.specs.History.{Replayed}
 use Rattle.sheet.specs.Views.{table_of}
-use Rattle.history.specs.declared.call.Answer.{Answer}
-use Rattle.history.specs.Calls.{edits_of, faults_in}
+use Rattle.history.specs.Calls.{Answer, edits_of, faults_in}
 use Rattle.history.proofs.replay.Goals as goal
 
 -- the list is as long as the calls, so its front is the whole

@@ -19,7 +19,7 @@ fn check_timing(p: Priority, timing: Timing) -> Result<(), Refusal>
     ensures answer { refused result ≡ timing_refusal p.0 (timing_of timing) }
     ensures ranges { OnOk result (Timed (timing_of timing)) }
 {
-    let place = p.0 as u16;
+    let place = p.into();
     if timing.run_time < 1 || timing.run_time > RUN_TIME_TOP {
         return Err(Refusal::RunTimeRange(place));
     }
@@ -53,7 +53,7 @@ impl Sheet {
     {
         let i = p.index()?;
         if self.rows[i].is_none() {
-            return Err(Refusal::NoRow(p.0 as u16));
+            return Err(Refusal::NoRow(p.into()));
         }
         self.rows[i] = None;
         Ok(())
@@ -64,18 +64,15 @@ impl Sheet {
         ensures { Edited (limit p.0 to.0) (table_of self.old) (refused result) (table_of self.new) }
     {
         let i = p.index()?;
-        let old = self.rows[i];
-        let Some(row) = old else {
-            return Err(Refusal::NoRow(p.0 as u16));
+        // Copied and written back: a row that is changed in its place gets no proof.
+        let Some(mut row) = self.rows[i] else {
+            return Err(Refusal::NoRow(p.into()));
         };
         if to.0 < 1 || to.0 > p.0 {
-            return Err(Refusal::CapRange(p.0 as u16));
+            return Err(Refusal::CapRange(p.into()));
         }
-        let capped = Row {
-            timing: row.timing,
-            cap: to,
-        };
-        self.rows[i] = Some(capped);
+        row.cap = to;
+        self.rows[i] = Some(row);
         Ok(())
     }
 }

@@ -23,13 +23,11 @@ impl Sheet {
         ensures value { figures result ≡ table_of self.now p.0 }
         ensures sound { Sound (table_of self.now) }
     {
-        match p.index() {
-            Ok(i) => self.rows[i],
-            Err(_) => None,
-        }
+        let i = p.index().ok()?;
+        self.rows[i]
     }
 
-    // Whether the entry q fits at p.
+    // Whether the entry q fits at p. No row is 0, and no `None`: a column is the bytes of a scheduler's table.
     fn entry_fits(&self, p: Priority, q: u8) -> bool
         ensures { result ≡ fits_at (table_of self.now) p.0 q }
     {
@@ -43,12 +41,13 @@ impl Sheet {
     pub fn check_column(&self, column: &[u8]) -> Result<(), Refusal>
         ensures { ColumnAnswer (table_of self.now) column.now (refused result) }
     {
-        if column.len() < PRIORITIES as usize {
+        let Some(entries) = column.first_chunk::<32>() else {
             return Err(Refusal::ListTooShort);
-        }
-        for p in 1..=PRIORITIES {
-            if !self.entry_fits(Priority(p), column[p as usize - 1]) {
-                return Err(Refusal::ColumnMisfit(p as u16));
+        };
+        for (i, q) in entries.iter().enumerate() {
+            let p = Priority(i as u8 + 1);
+            if !self.entry_fits(p, *q) {
+                return Err(Refusal::ColumnMisfit(p.into()));
             }
         }
         Ok(())

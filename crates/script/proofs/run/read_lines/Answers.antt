@@ -1,10 +1,14 @@
-use Rattle.std.proofs.Common.{[], ◌∷◌, ◌++◌, vec_items, ap, ◌∙◌}
-use Rattle.script.specs.declared.line.Line.{Line}
-use Rattle.script.proofs.Saying.{said_more}
+use Rattle.std.proofs.Common.{List, ℕ, Bor, refl, rules}
+use Rattle.std.proofs.lemmas.Iterator.{YieldsList-from_map, items_from_collect}
+use Rattle.std.proofs.lemmas.Iterator.Consumers.{YieldsList-from_first, YieldsList-at}
+use Rattle.text.specs.Text.{lines}
+use Rattle.text.specs.declared.Lines.{Lines}
+use Rattle.script.specs.Lines.{line_of}
 use Rattle.script.proofs.run.read_lines.Goals as goal
 
-pub loop-line-preserved : goal.loop-line-preserved
-loop-line-preserved c =
-    said_more c.args.text.now c.loop-line.rest.now c.in-Some.line.now c.in-Some.after.now (vec_items c.loop-line.said) (vec_items c.push.new.self)
-    c.loop-line.invariant c.in-Some.ensures.cuts
-    (c.in_ok-push.ensures.items ∙ ap (λ (l : Line). vec_items c.loop-line.said ++ l ∷ []) c.read_line.ensures)
+pub returns : goal.returns
+returns c =
+    items_from_collect _ c.collect.ensures.ran
+    (YieldsList-from_map _ line_of
+    (YieldsList-at c.map.ensures.source (YieldsList-from_first (λ (x : Bor (List ℕ)). x.now) (λ (s : Lines). lines s.0.now) (lines c.args.text.now) refl))
+    c.map.ensures.closure (λ x r q k. search rules))

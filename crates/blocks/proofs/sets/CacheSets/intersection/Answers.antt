@@ -1,6 +1,6 @@
-use Rattle.std.proofs.Common.{refl}
-use Rattle.blocks.proofs.Words.{four, intersection_words}
+use Rattle.std.proofs.Common.{rules}
+use Rattle.blocks.proofs.Words.{intersection_words}
 use Rattle.blocks.proofs.sets.CacheSets.intersection.Goals as goal
 
 pub returns : goal.returns
-returns c = intersection_words _ _ _ (four _ refl refl refl refl)
+returns c = intersection_words c.by_words.result.words c.args.self.now.words c.args.other.now.words (λ q l. search (rules, c.by_words.ensures q l))

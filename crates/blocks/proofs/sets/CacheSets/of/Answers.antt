@@ -1,19 +1,12 @@
-use Rattle.std.proofs.Common.{ℕ, Bool, ◌||◌, eqb, List, get_or, sym, ap, ◌∙◌, take_all}
-use Rattle.blocks.specs.Members.{listed}
+use Rattle.std.proofs.Common.{List, ℕ, subst, rules}
+use Rattle.std.proofs.lemmas.Fn.{fold_over, fronts, slice_gives}
+use Rattle.theory.specs.Sets.{SameSets}
+use Rattle.blocks.specs.Members.{has, listed}
 use Rattle.blocks.proofs.Words.{listed_more}
 use Rattle.blocks.proofs.sets.CacheSets.of.Goals as goal
 
-pub loop-s-init : goal.loop-s-init
-unfolding listed
-loop-s-init c s l = c.empty-sets.ensures s l
-
-pub loop-s-preserved : goal.loop-s-preserved
-loop-s-preserved c s l =
-    let list = c.args.list.now in
-    let k = c.loop-s.s-index in
-    c.with-sets.ensures s l ∙ ap (λ (v : Bool). eqb s (get_or list k 0) || v) (c.loop-s.invariant s l)
-    ∙ sym (listed_more list k s c.loop-s-test.true)
-
 pub returns : goal.returns
-returns c s l =
-    c.loop-s.invariant s l ∙ ap (λ (xs : List ℕ). listed xs s) (take_all _ _ c.loop-s-test.false)
+unfolding listed
+returns c =
+    let all = fold_over fronts (λ y. y.now) _ (λ ys a. SameSets (has a) (listed ys)) _ (λ ys a x b f' before k. (listed_more (has a) (has b) ys x.now (search rules) before, search rules)) c.iter.result c.iter.result.rest.now c.empty.result c.fold.result (slice_gives c.iter.result) c.empty.ensures c.fold.ensures.ran in
+    subst (λ (xs : List ℕ). SameSets (has c.fold.result) (listed xs)) c.iter.ensures.rest all

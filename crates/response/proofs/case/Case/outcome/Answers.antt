@@ -14,7 +14,7 @@ pub overflow_mul-response : goal.overflow_mul-response
 overflow_mul-response c =
     let q = c.args.self.now in
     let p = c.in-Some.ensures in
-    record { fits = omega (arith, released (equations_of q) (own_timing q) c.requires c.loop-k.k c.in-Some.period c.start-start.result p.0 c.start-start.ensures.is c.start-start.ensures.within) }
+    record { fits = omega (arith, released (equations_of q) (own_timing q) q.regular c.loop-k.k c.in-Some.period c.start-start.result p.0 c.start-start.ensures.is c.start-start.ensures.within) }
 
 pub overflow_sub-response : goal.overflow_sub-response
 overflow_sub-response c =
@@ -22,8 +22,8 @@ overflow_sub-response c =
     let p = c.in-Some.ensures in
     omega (
       arith,
-      released (equations_of q) (own_timing q) c.requires c.loop-k.k c.in-Some.period c.start-start.result p.0 c.start-start.ensures.is c.start-start.ensures.within,
-      finishes_later (equations_of q) (own_timing q) c.requires c.loop-k.k c.start-start.result c.finish-finish.result c.start-start.ensures.is c.finish-finish.ensures.is,
+      released (equations_of q) (own_timing q) q.regular c.loop-k.k c.in-Some.period c.start-start.result p.0 c.start-start.ensures.is c.start-start.ensures.within,
+      finishes_later (equations_of q) (own_timing q) q.regular c.loop-k.k c.start-start.result c.finish-finish.result c.start-start.ensures.is c.finish-finish.ensures.is,
     )
 
 pub returns-then-response-timing : goal.returns-then-response-timing
@@ -40,7 +40,7 @@ loop-k-preserved c =
       seen_more (equations_of q) (own_timing q) c.loop-k.k c.loop-k.worst _ c.max-worst.result c.loop-k.invariant.0
           (record { start = c.start-start.result; finish = c.finish-finish.result; starts = c.start-start.ensures.is; finishes = c.finish-finish.ensures.is; is = refl })
           c.if-response-timing.false c.max-worst.ensures,
-      start_warm (equations_of q) (own_timing q) c.requires c.loop-k.k c.start-start.result c.start-start.ensures.is,
+      start_warm (equations_of q) (own_timing q) q.regular c.loop-k.k c.start-start.result c.start-start.ensures.is,
     )
 
 pub returns : goal.returns
@@ -48,4 +48,4 @@ returns c =
     let q = c.args.self.now in
     let p = c.in-Some.ensures in
     let all : c.loop-k.k ≡ before (own_timing q) c.in-Some.period = omega arith in
-    seen_all (equations_of q) (own_timing q) c.in-Some.period p.0 p.1 c.loop-k.k c.loop-k.worst c.requires.apart all c.loop-k.invariant.0
+    seen_all (equations_of q) (own_timing q) c.in-Some.period p.0 p.1 c.loop-k.k c.loop-k.worst q.regular.apart all c.loop-k.invariant.0

@@ -1,26 +1,20 @@
-use Rattle.std.proofs.Common.{sym, ◌∙◌, arith}
-use Rattle.theory.proofs.Jobs.{start_below}
-use Rattle.theory.proofs.Solutions.{climb_to, climb_least}
-use Rattle.response.specs.Cases.{own_timing, equations_of}
+use Rattle.std.proofs.Common.{◌-◌, arith, rules}
+use Rattle.response.specs.Cases.{equations_of}
+use Rattle.response.proofs.Solving.{some_found, found_in}
 use Rattle.response.proofs.case.Case.start.Goals as goal
 
-pub loop-x-init : goal.loop-x-init
-loop-x-init c =
+pub unwrap-requires : goal.unwrap-requires
+unwrap-requires c =
     let q = c.args.self.now in
-    (c.requires.below, start_below (equations_of q) (own_timing q) c.requires.regular c.args.k c.args.period _ c.requires.active c.requires.among c.requires.below)
+    let f = (equations_of q).start c.args.k in
+    let up = q.regular.start_up c.args.k in
+    some_found 0 f (c.args.period - 1) _ (c.least_solution.ensures 0 f (λ x y l is. search rules) up c.requires.below) (omega arith)
+    (q.regular.start_within c.args.k c.args.period c.requires.active c.requires.among)
 
-pub overflow_cast-x-in-loop-x : goal.overflow_cast-x-in-loop-x
-overflow_cast-x-in-loop-x c =
+pub returns : goal.returns
+returns c =
     let q = c.args.self.now in
-    let next = climb_to (c.requires.regular.start_up c.args.k) c.loop-x.invariant.0 c.start_demand-next.ensures in
-    record { fits = omega (arith, start_below (equations_of q) (own_timing q) c.requires.regular c.args.k c.args.period _ c.requires.active c.requires.among next) }
-
-pub loop-x-preserved : goal.loop-x-preserved
-loop-x-preserved c =
-    let q = c.args.self.now in
-    let next = climb_to (c.requires.regular.start_up c.args.k) c.loop-x.invariant.0 c.start_demand-next.ensures in
-    (next, start_below (equations_of q) (own_timing q) c.requires.regular c.args.k c.args.period _ c.requires.active c.requires.among next)
-
-pub returns-then-next-x : goal.returns-then-next-x
-returns-then-next-x c =
-    record { is = climb_least (c.requires.regular.start_up c.args.k) c.loop-x.invariant.0 (sym c.if-next-x.true ∙ c.start_demand-next.ensures); within = c.loop-x.invariant.1 }
+    let f = (equations_of q).start c.args.k in
+    let up = q.regular.start_up c.args.k in
+    let found = found_in 0 f (c.args.period - 1) _ _ (c.least_solution.ensures 0 f (λ x y l is. search rules) up c.requires.below) c.unwrap.ensures in
+    record { is = found.0; within = omega (arith, found.1, c.requires.active.solves.from) }
