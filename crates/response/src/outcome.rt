@@ -19,7 +19,7 @@ pub enum Outcome {
 }
 
 impl Outcome {
-    // A number, since it is told to programs that know no Rust.
+    // A number, since it is the order in which they apply.
     /// The outcomes in their order, from 1.
     pub fn number(self) -> u8
         ensures { result ≡ verdict_number (verdict_of self) }

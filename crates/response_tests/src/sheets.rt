@@ -4,7 +4,7 @@ use names::{Priority, Timing};
 use sheet::table::Sheet;
 
 // Rows as run time, separation and deadline, from priority 1 on.
-pub fn sheet_of(rows: &[(u32, u32, u32)]) -> Result<Sheet, Refusal> {
+pub(super) fn sheet_of(rows: &[(u32, u32, u32)]) -> Result<Sheet, Refusal> {
     let mut sheet = Sheet::new();
     for (p, (run_time, separation, deadline)) in (1..).zip(rows) {
         let timing = Timing {
@@ -18,14 +18,14 @@ pub fn sheet_of(rows: &[(u32, u32, u32)]) -> Result<Sheet, Refusal> {
 }
 
 // A column that begins with these entries, and has no rows after them.
-pub fn column_of(entries: [u8; 3]) -> [u8; 32] {
+pub(super) fn column_of(entries: [u8; 3]) -> [u8; 32] {
     let mut column = [0; 32];
     column[..3].copy_from_slice(&entries);
     column
 }
 
 // A row without a blocker.
-pub fn alone(row: u8) -> Pair {
+pub(super) fn alone(row: u8) -> Pair {
     Pair {
         row: Priority(row),
         blocker: None,
@@ -33,7 +33,7 @@ pub fn alone(row: u8) -> Pair {
 }
 
 // A row with a blocker.
-pub fn blocked(row: u8, by: u8) -> Pair {
+pub(super) fn blocked(row: u8, by: u8) -> Pair {
     Pair {
         row: Priority(row),
         blocker: Some(Priority(by)),
