@@ -1,7 +1,7 @@
 -- The numbers that pass a test, in order: which is the first, and what a fold makes of them.
-use Rattle.std.proofs.Common.{◌≡◌, ℕ, zero, suc, ◌≤◌, ◌<◌, max, Bool, true, false, cond, not, ◌&&◌, ◌||◌, eqb, [], ◌∷◌, ◌++◌, refl, ap, ◌∙◌, ⊎_elim, fold, arith}
+use Rattle.std.proofs.Common.{◌≡◌, ℕ, zero, suc, ◌+◌, ◌≤◌, ◌<◌, max, Bool, true, false, cond, not, ◌&&◌, ◌||◌, eqb, [], ◌∷◌, ◌++◌, sym, refl, ap, ap₂, ◌∙◌, ⊎_elim, fold, add-one, arith}
 use mathlib.Core.Bool.{and-true, or_comm}
-use Rattle.std.proofs.lemmas.Bool.{and_left, and_right, cases_eq, eq-eqb, ne_eqb}
+use Rattle.std.proofs.lemmas.Bool.{and_left, and_right, cases_eq, cases_lt, eq-eqb, ne_eqb}
 use Rattle.std.proofs.lemmas.List.Sums.{fold_push}
 use Rattle.theory.specs.Delays.{some_to}
 use Rattle.theory.specs.Sets.{Sets, counted, in_one, largest_to}
@@ -69,3 +69,23 @@ largest_passing test f zero = refl
 largest_passing test f (suc n) =
     let before = largest_passing test f n in
     fold_passing (λ m k. max m (f k)) 0 test n ∙ rw before (largest_turn (test (suc n)) (largest_to (counted test f) n) (f (suc n)))
+
+-- one number more was tested
+pub some_more : (test : ℕ → Bool) (n : ℕ) (some now : Bool) → some ≡ some_to test n → now ≡ test (n + 1) → (some || now) ≡ some_to test (n + 1)
+unfolding some_to
+some_more test n some now before here =
+    let next : test (n + 1) ≡ test (suc n) = ap test (add-one n) in
+    or_comm some now ∙ ap₂ ◌||◌ (here ∙ next) before ∙ sym (ap (some_to test) (add-one n))
+
+-- no number past n passes
+pub some_past : (test : ℕ → Bool) (n m : ℕ) → n ≤ m → ((k : ℕ) → n < k → k ≤ m → test k ≡ false) → some_to test n ≡ some_to test m
+unfolding some_to
+some_past test n zero l none = let end : n ≡ zero = omega arith in ap (some_to test) end
+some_past test n (suc m) l none =
+    ⊎_elim
+    (λ more.
+    let before = some_past test n m (omega arith) (λ k a b. none k a (omega arith)) in
+    let failed = none (suc m) more (omega arith) in
+    before ∙ rw failed refl)
+    (λ end. let same : n ≡ suc m = omega arith in ap (some_to test) same)
+    (cases_lt n (suc m))

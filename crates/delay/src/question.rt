@@ -1,5 +1,5 @@
 ghost use Rattle.std.specs.Prelude.{◌≡◌, ℕ, ◌||◌, ◌==◌, nat_le};
-ghost use Rattle.theory.specs.Delays.{affected, asked};
+ghost use Rattle.theory.specs.Delays.{affected, asked, some_row};
 ghost use Rattle.theory.specs.Figures.{Within, priorities};
 ghost use Rattle.delay.specs.Blockers.{blocker_of};
 ghost use Rattle.delay.specs.RowSets.{in_rows};
@@ -40,6 +40,23 @@ impl Question<'_> {
         ensures { (k : ℕ) → Within priorities k → in_rows result k ≡ affected self.now.pair.row.0 (blocker_of self.now.pair.blocker) self.now.preempting.0 self.now.column.now k }
     {
         RowSet::pre_empted_by(self.preempting, self.column).intersection(self.judged_rows())
+    }
+
+    // Whether some row is affected.
+    pub(super) fn any_affected(&self) -> bool
+        ensures { result ≡ some_row (affected self.now.pair.row.0 (blocker_of self.now.pair.blocker) self.now.preempting.0 self.now.column.now) }
+    {
+        let i = self.pair.row.0;
+        let b = self.pair.blocker.map_or(0, |b| b.0);
+        let known = self.column.len().min(PRIORITIES as usize);
+        let mut some = false;
+        // `&` and `|` leave no branch, so 16 entries are tested at a time: `&&` and `||` take twice as long, and so
+        // does the set of the affected rows.
+        for (t, entry) in self.column[..known].iter().enumerate() {
+            let k = t as u8 + 1;
+            some |= ((k <= i) | (k == b)) & (self.preempting.0 < *entry);
+        }
+        some
     }
 
     // The judged row, the rows more urgent than it, and the blocker.

@@ -25,10 +25,10 @@ impl<M: DelayModel> DelayModel for Switch<M> {
             return 0;
         }
         let below = self.below.charge_of(question);
-        if question.affected_rows().is_empty() {
-            below
-        } else {
+        if question.any_affected() {
             (below + u32::from(self.cost.ticks())).min(TOO_MUCH)
+        } else {
+            below
         }
     }
 }

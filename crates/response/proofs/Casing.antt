@@ -1,8 +1,8 @@
 -- The equations of a case are those of its question.
-use Rattle.std.proofs.Common.{◌≡◌, ℕ, zero, suc, ◌+◌, ◌-◌, ◌*◌, ◌<◌, ◌≤◌, Bool, true, false, cond, ltb, List, length, take, drop, get_or, Some, None, Option, sym, refl, ap, ◌∙◌, subst, ap₂, le_trans, add-one, zero-add, arith}
+use Rattle.std.proofs.Common.{◌≡◌, ℕ, zero, suc, ◌+◌, ◌-◌, ◌*◌, ◌≤◌, Bool, true, false, cond, ltb, min, List, take, drop, sum_by, Some, None, Option, sym, refl, ap, ◌∙◌, subst, ap₂, le_trans, zero-add, arith}
 use Rattle.std.proofs.lemmas.Bool.{and_parts, leb-true}
-use Rattle.std.proofs.lemmas.List.{get_or-take, length-take-le, take_all}
-use Rattle.std.proofs.lemmas.List.Sums.{sum_by_more, sum_by-take-drop}
+use Rattle.std.proofs.lemmas.List.{take-take}
+use Rattle.std.proofs.lemmas.List.Sums.{sum_by-append, sum_by-take-drop}
 use mathlib.Core.Path.{fun_ext}
 use Rattle.names.specs.Timings.{timing_of}
 use Rattle.sheet.specs.declared.row.Row.{Row}
@@ -19,10 +19,11 @@ use Rattle.theory.proofs.Arrivals.{before_next}
 use Rattle.theory.specs.Regular.{Regular}
 use Rattle.theory.proofs.Demands.{Apart, Proper, regular, sum_next, sum_same, sum_split}
 use Rattle.theory.proofs.Findings.{proper}
+use Rattle.response.specs.declared.source.Above.{Above}
 use Rattle.response.specs.declared.source.Source.{Source}
 use Rattle.response.specs.Cases.{JobsJudged}
 use Rattle.response.specs.Demands.{equations_in}
-use Rattle.response.specs.Gathering.{charges_in, SourceOf, Gathered}
+use Rattle.response.specs.Gathering.{charges_in, present, Lined, SourceOf, Gathered}
 use Rattle.response.specs.Ticks.{source_ticks, ticks_of}
 use Rattle.response.proofs.Gathering.{affordable}
 
@@ -31,27 +32,22 @@ abbrev load_before : Table → (ℕ → ℕ) → ℕ → ℕ → ℕ
 load_before rows charge x j = load (λ w. before w x) (rows j) (charge j)
 
 -- ---- what the sources take is what their rows do
-source_load : (x : ℕ) (o : Option Figures) (c : ℕ) (s : Option Source) → SourceOf o c s → source_ticks x s ≡ load (λ w. before w x) o c
-unfolding source_ticks price
+source_load : (x : ℕ) (o : Option Figures) (c : ℕ) (s : Option Source) → SourceOf o c s → ticks_of (present s) x ≡ load (λ w. before w x) o c
+unfolding ticks_of source_ticks price
 source_load x o c None none = ap (λ (y : Option Figures). load (λ w. before w x) y c) (sym none)
 source_load x o c (Some s) is =
-    ap (λ (p : ℕ). before (timing_of s.row.timing) x * p) is.1 ∙ ap (λ (y : Option Figures). load (λ w. before w x) y c) is.0
+    zero-add _ ∙ ap (λ (p : ℕ). before (timing_of s.row.timing) x * p) is.1 ∙ ap (λ (y : Option Figures). load (λ w. before w x) y c) is.0
 
-module _ (rows : Table) (charge : ℕ → ℕ) (hi : ℕ) (xs : List (Option Source)) (long : length xs ≡ hi - 1)
-    (each : (j : ℕ) → 1 ≤ j → j < hi → SourceOf (rows j) (charge j) (get_or xs (j - 1) None)) (x : ℕ) where
-  ticks_to : (n : ℕ) → n < hi → ticks_of (take n xs) x + sum_below (load_before rows charge x) 1 ≡ sum_below (load_before rows charge x) (n + 1)
-  unfolding ticks_of
-  ticks_to zero l = let one : 0 + 1 ≡ 1 = omega arith in ap (λ (y : ℕ). 0 + y) refl ∙ zero-add _ ∙ sym (ap (sum_below (load_before rows charge x)) one)
-  ticks_to (suc n) l =
-      let step = sum_by_more (source_ticks x) xs n None (omega (arith, long)) in
-      let here = source_load x (rows (n + 1)) (charge (n + 1)) (get_or xs n None) (subst (λ (k : ℕ). SourceOf (rows (n + 1)) (charge (n + 1)) (get_or xs k None)) (let e : n + 1 - 1 ≡ n = omega arith in e) (each (n + 1) (omega arith) (omega arith))) in
-      rw (← add-one) (omega (arith, step, here, ticks_to n (omega arith), sum_next (load_before rows charge x) (n + 1)))
-
-  ticks_all : 1 ≤ hi → ticks_of xs x + sum_below (load_before rows charge x) 1 ≡ sum_below (load_before rows charge x) hi
-  ticks_all l =
-      let last : hi - 1 + 1 ≡ hi = omega arith in
-      ap (λ (ys : List (Option Source)). ticks_of ys x + sum_below (load_before rows charge x) 1) (sym (take_all (hi - 1) xs (omega (arith, long))))
-      ∙ ticks_to (hi - 1) (omega arith) ∙ ap (sum_below (load_before rows charge x)) last
+-- rows that are lined up take what the rows up to the last of them do
+ticks_lined : (rows : Table) (charge : ℕ → ℕ) (x n : ℕ) (xs : List Source) → Lined rows charge n xs
+    → ticks_of xs x + sum_below (load_before rows charge x) 1 ≡ sum_below (load_before rows charge x) (n + 1)
+unfolding Lined ticks_of
+ticks_lined rows charge x zero xs none = ap (λ (ys : List Source). sum_by (source_ticks x) ys + sum_below (load_before rows charge x) 1) none ∙ zero-add _
+ticks_lined rows charge x (suc n) xs (ys, s, l, is, e) =
+    let more = ap (λ (zs : List Source). ticks_of zs x) e ∙ sum_by-append (source_ticks x) ys (present s) in
+    let here = source_load x (rows (n + 1)) (charge (n + 1)) s is in
+    let up = ap (sum_below (load_before rows charge x)) (let e : suc n + 1 ≡ n + 1 + 1 = omega arith in e) in
+    omega (arith, more, here, up, ticks_lined rows charge x n ys l, sum_next (load_before rows charge x) (n + 1))
 
 load_cond : (b : Bool) (n m : Timing → ℕ) (o : Option Figures) (c : ℕ) → load (λ w. cond b (n w) (m w)) o c ≡ cond b (load n o c) (load m o c)
 load_cond true n m o c = refl
@@ -129,35 +125,28 @@ module _ (s : Sheet) (c : Charge) (laws : Lawful c) (h : List ℕ) (i b : ℕ) (
   abbrev ok : Proper q
   ok = proper (table_of s) (sound_table s) c laws h i b figured (sym row)
 
-  module _ (xs : List (Option Source)) (all : Gathered (table_of s) (charges_in c h i b) i xs) where
-    abbrev ys : List (Option Source)
-    ys = take (i - 1) xs
+  module _ (x : Above) (K t : ℕ) (all : Gathered (table_of s) (charges_in c h i b) t i x) (pre others : List Source) (same : K ≡ contribution (table_of s) b) (is : t ≡ entry h i)
+      (front : pre ≡ take x.preempting (take x.len x.sources)) (back : others ≡ drop x.preempting (take x.len x.sources)) where
+    -- its equations are those of the question
+    case_equations : equations_in own K pre others ≡ equations q
+    unfolding ticks_of
+    case_equations =
+        let w = threshold_within in
+        let charge = charges_in c h i b in
+        let ys = take x.len x.sources in
+        let begins : pre ≡ take x.preempting x.sources = front ∙ take-take x.preempting x.len x.sources all.among in
+        let to : min (t - 1) (i - 1) + 1 ≡ entry h i = omega (arith, w.0, w.1, is) in
+        let last : i - 1 + 1 ≡ i = omega (arith, w.0, w.1) in
+        let first : (x : ℕ) → ticks_of pre x + sum_below (load_before (table_of s) charge x) 1 ≡ sum_below (load_before (table_of s) charge x) (entry h i) =
+        λ k. rw begins (ticks_lined (table_of s) charge k _ _ all.first ∙ ap (sum_below (load_before (table_of s) charge k)) to) in
+        let rows : (x : ℕ) → ticks_of ys x + sum_below (load_before (table_of s) charge x) 1 ≡ sum_below (load_before (table_of s) charge x) i =
+        λ k. ticks_lined (table_of s) charge k _ _ all.lined ∙ ap (sum_below (load_before (table_of s) charge k)) last in
+        let all_ticks : (x : ℕ) → ticks_of pre x + ticks_of others x ≡ ticks_of ys x = λ k. rw (front, back) (sum_by-take-drop (source_ticks k) ys x.preempting) in
+        equations_split q ok refl w.1 (ticks_of pre) (ticks_of others) first (λ k. omega (arith, first k, all_ticks k, rows k)) K same
 
-    long : length ys ≡ i - 1
-    long = length-take-le (i - 1) xs (let r = (sound_table s i figured (sym row)).priority in omega (arith, all.long, r.1))
+    pub case_regular : Regular (equations_in own K pre others) (timing_of own.timing)
+    case_regular = subst (λ (e : Equations). Regular e (timing_of own.timing)) (sym case_equations) (regular q ok)
 
-    each : (j : ℕ) → 1 ≤ j → j < i → SourceOf (table_of s j) (c i b j h) (get_or ys (j - 1) None)
-    each j l u =
-        let r = (sound_table s i figured (sym row)).priority in
-        subst (λ (o : Option Source). SourceOf (table_of s j) (c i b j h) o) (sym (get_or-take (i - 1) xs (j - 1) None (omega arith))) (all.each j (l, omega (arith, r.1)) u)
-
-    module _ (K t : ℕ) (pre others : List (Option Source)) (same : K ≡ contribution (table_of s) b) (is : t ≡ entry h i)
-        (front : pre ≡ take (t - 1) ys) (back : others ≡ drop (t - 1) ys) where
-      -- its equations are those of the question
-      case_equations : equations_in own K pre others ≡ equations q
-      unfolding ticks_of
-      case_equations =
-          let w = threshold_within in
-          let charge = charges_in c h i b in
-          let first : (x : ℕ) → ticks_of pre x + sum_below (load_before (table_of s) charge x) 1 ≡ sum_below (load_before (table_of s) charge x) (entry h i) =
-          λ x. rw front (ticks_to (table_of s) charge i ys long each x (t - 1) (omega (arith, w.0, w.1, is)) ∙ ap (sum_below (load_before (table_of s) charge x)) (let e : t - 1 + 1 ≡ entry h i = omega (arith, w.0, is) in e)) in
-          let all_ticks : (x : ℕ) → ticks_of pre x + ticks_of others x ≡ ticks_of ys x = λ x. rw (front, back) (sum_by-take-drop (source_ticks x) ys (t - 1)) in
-          equations_split q ok refl w.1 (ticks_of pre) (ticks_of others) first
-          (λ x. omega (arith, first x, all_ticks x, ticks_all (table_of s) charge i ys long each x (omega (arith, w.0, w.1)))) K same
-
-      pub case_regular : Regular (equations_in own K pre others) (timing_of own.timing)
-      case_regular = subst (λ (e : Equations). Regular e (timing_of own.timing)) (sym case_equations) (regular q ok)
-
-      -- what is found in it is the outcome of the question
-      pub case_judged : (v : Verdict) → JobsJudged (equations_in own K pre others) (timing_of own.timing) v → Judged q v
-      case_judged v y = jobs_judged q (affordable q refl all.cheap) v (subst (λ (e : Equations). JobsJudged e (timing_of own.timing) v) case_equations y)
+    -- what is found in it is the outcome of the question
+    pub case_judged : (v : Verdict) → JobsJudged (equations_in own K pre others) (timing_of own.timing) v → Judged q v
+    case_judged v y = jobs_judged q (affordable q refl all.cheap) v (subst (λ (e : Equations). JobsJudged e (timing_of own.timing) v) case_equations y)

@@ -3,3 +3,4 @@ pub mod Gathering
 pub mod Solving
 pub mod Testing
 pub mod Filling
+pub mod Lining

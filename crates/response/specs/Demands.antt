@@ -1,6 +1,6 @@
 -- The right sides of the equations of a row, by its parts: the row, what the blocker contributes, the rows above that can
 -- pre-empt it once it has started, and the other rows above.
-use Rattle.std.specs.Prelude.{ℕ, ◌+◌, ◌*◌, List, Option}
+use Rattle.std.specs.Prelude.{ℕ, ◌+◌, ◌*◌, List}
 use Rattle.names.specs.Timings.{timing_of}
 use Rattle.sheet.specs.declared.row.Row.{Row}
 use Rattle.theory.specs.Arrivals.{before}
@@ -8,7 +8,7 @@ use Rattle.theory.specs.Equations.{Equations}
 use Rattle.response.specs.declared.source.Source.{Source}
 use Rattle.response.specs.Ticks.{ticks_of}
 
-abbrev pub equations_in : Row → ℕ → List (Option Source) → List (Option Source) → Equations
+abbrev pub equations_in : Row → ℕ → List Source → List Source → Equations
 equations_in own blocking preempting others =
     record {
       period = λ x. blocking + before (timing_of own.timing) x * own.timing.run_time + (ticks_of preempting x + ticks_of others x);

@@ -1,9 +1,10 @@
 -- How the rows above are gathered, with their prices.
-use Rattle.std.specs.Prelude.{◌≡◌, ℕ, ◌+◌, ◌-◌, ◌<◌, ◌≤◌, true, List, length, Some, None, Ok, Err, Option, Result, slice_index_or}
+use Rattle.std.specs.Prelude.{◌≡◌, ℕ, zero, suc, ◌+◌, ◌-◌, ◌<◌, ◌≤◌, min, true, List, [], ◌∷◌, ◌++◌, length, take, Some, None, Ok, Err, Option, Result}
 use Rattle.names.specs.declared.Priority.{Priority}
 use Rattle.sheet.specs.Views.{figures}
 use Rattle.theory.specs.Delays.{Charge, too_much}
-use Rattle.theory.specs.Figures.{Figures, Table, is_row, priorities, Within}
+use Rattle.theory.specs.Figures.{Figures, Table, is_row, priorities}
+use Rattle.response.specs.declared.source.Above.{Above}
 use Rattle.response.specs.declared.source.Source.{Source}
 
 -- the charge for each row j, while row i is judged with blocker b in the column h
@@ -29,10 +30,24 @@ abbrev pub Sourced : Table → (ℕ → ℕ) → ℕ → Result (Option Source) 
 Sourced rows charge j (Ok s) = SourceOf (rows j) (charge j) s × (TooDear rows charge j → ⊥)
 Sourced rows charge j (Err p) = (p.0 ≡ j) × TooDear rows charge j
 
--- the list has the source of each row from 1 to below hi, the first that of priority 1, and none is charged too much
-pub record Gathered (rows : Table) (charge : ℕ → ℕ) (hi : ℕ) (sources : List (Option Source)) : Type 0 where
-  pub long : length sources ≡ priorities
-  pub each : (j : ℕ) → Within priorities j → j < hi → SourceOf (rows j) (charge j) (slice_index_or sources (j - 1) None)
+-- the source that is there, if one is
+abbrev pub present : Option Source → List Source
+present None = []
+present (Some s) = s ∷ []
+
+-- the list has the sources of the rows from 1 to n, in this order and without gaps
+unfoldable pub Lined : Table → (ℕ → ℕ) → ℕ → List Source → Type 0
+Lined rows charge zero xs = xs ≡ []
+Lined rows charge (suc n) xs =
+    (ys : List Source) × (s : Option Source) × Lined rows charge n ys × SourceOf (rows (n + 1)) (charge (n + 1)) s × (xs ≡ ys ++ present s)
+
+-- the rows from 1 to below hi, those below t before the others, and none is charged too much
+pub record Gathered (rows : Table) (charge : ℕ → ℕ) (t hi : ℕ) (x : Above) : Type 0 where
+  pub long : length x.sources ≡ priorities
+  pub few : x.len ≤ hi - 1
+  pub among : x.preempting ≤ x.len
+  pub lined : Lined rows charge (hi - 1) (take x.len x.sources)
+  pub first : Lined rows charge (min (t - 1) (hi - 1)) (take x.preempting x.sources)
   pub cheap : NoneDear rows charge hi
 
 -- p is the most urgent row from 1 to below hi that is charged too much
@@ -42,6 +57,6 @@ pub record FirstDear (rows : Table) (charge : ℕ → ℕ) (hi p : ℕ) : Type 0
   pub dear : TooDear rows charge p
   pub first : NoneDear rows charge p
 
-abbrev pub Gathers : Table → (ℕ → ℕ) → ℕ → Result (List (Option Source)) Priority → Type 0
-Gathers rows charge hi (Ok sources) = Gathered rows charge hi sources
-Gathers rows charge hi (Err p) = FirstDear rows charge hi p.0
+abbrev pub Gathers : Table → (ℕ → ℕ) → ℕ → ℕ → Result Above Priority → Type 0
+Gathers rows charge t hi (Ok x) = Gathered rows charge t hi x
+Gathers rows charge t hi (Err p) = FirstDear rows charge hi p.0

@@ -16,9 +16,9 @@ pub struct Case<'a> {
     /// The ticks that the blocker contributes.
     pub blocking: u32,
     /// The rows above that can pre-empt the row once it has started.
-    pub preempting: &'a [Option<Source>],
+    pub preempting: &'a [Source],
     /// The other rows above.
-    pub others: &'a [Option<Source>],
+    pub others: &'a [Source],
     ghost blocking_top: { blocking ≤ 16777215 },
     ghost few_preempting: { length preempting.now ≤ 32 },
     ghost few_others: { length others.now ≤ 32 },

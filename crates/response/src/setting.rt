@@ -13,7 +13,7 @@ ghost use Rattle.response.specs.Verdicts.{verdict_of};
 
 use super::case::Case;
 use super::outcome::Outcome;
-use super::source::Source;
+use super::source::{Above, Source};
 use super::tests::Failure;
 use delay::model::{DelayModel, TOO_MUCH};
 use delay::question::{Pair, Question};
@@ -82,20 +82,30 @@ impl<M: DelayModel> Setting<'_, M> {
         Ok(Some(Source { row, price }))
     }
 
-    // The sources of the rows above, the first that of priority 1; or the most urgent row that is charged too much.
-    fn sources_above(&self, pair: Pair) -> Result<[Option<Source>; 32], Priority>
-        ensures { Gathers (table_of self.now.sheet.now) (charges_in (M.charge self.now.model.now) self.now.column.now pair.row.0 (blocker_of pair.blocker)) pair.row.0 result }
+    // The rows above, of which those below the threshold can pre-empt; or the most urgent that is charged too much.
+    fn sources_above(&self, pair: Pair, own: Row, threshold: u8) -> Result<Above, Priority>
+        requires { Within 32 pair.row.0 }
+        ensures { Gathers (table_of self.now.sheet.now) (charges_in (M.charge self.now.model.now) self.now.column.now pair.row.0 (blocker_of pair.blocker)) threshold pair.row.0 result }
     {
-        let mut sources = [None; 32];
-        // No `try_from_fn`: its contract does not say that the calls before an error gave none.
-        for (k, source) in sources.iter_mut().enumerate() {
-            let j = Priority(k as u8 + 1);
-            if j.0 >= pair.row.0 {
-                break;
+        // A place behind the last row is not read, and the judged row fills it.
+        let filler = Source { row: own, price: 0 };
+        let mut sources = [filler; 32];
+        let mut len = 0;
+        let mut preempting = 0;
+        for j in 1..pair.row.0 {
+            if let Some(source) = self.source(pair, Priority(j))? {
+                sources[len] = source;
+                len += 1;
+                if j < threshold {
+                    preempting = len;
+                }
             }
-            *source = self.source(pair, j)?;
         }
-        Ok(sources)
+        Ok(Above {
+            sources,
+            preempting,
+            len,
+        })
     }
 
     /// The outcome of a row with a blocker. Every charge is asked for once.
@@ -104,12 +114,11 @@ impl<M: DelayModel> Setting<'_, M> {
         ensures { Judged (question (table_of self.now.sheet.now) (M.charge self.now.model.now) self.now.column.now pair.row.0 (blocker_of pair.blocker) (timing_of own.timing)) (verdict_of result) }
     {
         // A match: what is an error there is an outcome here.
-        let above = match self.sources_above(pair) {
-            Ok(sources) => sources,
+        let above = match self.sources_above(pair, own, self.threshold(pair.row)) {
+            Ok(above) => above,
             Err(j) => return Outcome::TooMuch(j),
         };
-        let rows = &above[..pair.row.0 as usize - 1];
-        let (preempting, others) = rows.split_at(self.threshold(pair.row) as usize - 1);
+        let (preempting, others) = above.sources[..above.len].split_at(above.preempting);
         let case = Case {
             own,
             blocking: self.blocking(pair.blocker),

@@ -9,3 +9,13 @@ pub struct Source {
     pub price: u32,
     ghost price_top: { price ≤ 17825790 },
 }
+
+/// The rows above, without gaps, the most urgent first: an iteration meets no place without a row.
+#[derive(Drop)]
+pub struct Above {
+    pub sources: [Source; 32],
+    /// How many of them can pre-empt the judged row once it has started.
+    pub preempting: usize,
+    /// How many they are.
+    pub len: usize,
+}

@@ -23,8 +23,8 @@ impl Source {
     }
 }
 
-/// The ticks that some rows take for the jobs that they release before x. No row is where there is no source.
-pub fn ticks(sources: &[Option<Source>], x: u32) -> u64
+/// The ticks that some rows take for the jobs that they release before x.
+pub fn ticks(sources: &[Source], x: u32) -> u64
     requires { length sources.now ≤ 32 }
     ensures value { result ≡ ticks_of sources.now x }
     ensures bound { result ≤ 2449957921841217600 }
@@ -32,9 +32,7 @@ pub fn ticks(sources: &[Option<Source>], x: u32) -> u64
     // No chain to `sum`: the bound on the sum is not proved there.
     let mut sum: u64 = 0;
     for source in sources {
-        if let Some(source) = source {
-            sum += source.ticks(x);
-        }
+        sum += source.ticks(x);
     }
     sum
 }

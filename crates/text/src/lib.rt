@@ -1,7 +1,7 @@
 // Lines, words and numbers in a text of bytes.
 #![tactic(auto)]
 
-ghost use Rattle.std.specs.Prelude.{◌≡◌, ℕ, ◌<◌, ◌≤◌, min, [], ◌∷◌, Bool, length, Some, IfSome, MatchOption};
+ghost use Rattle.std.specs.Prelude.{◌≡◌, ℕ, ◌<◌, ◌≤◌, true, [], ◌∷◌, Bool, length, Some, IfSome, MatchOption};
 ghost use Rattle.std.specs.Iterator.{YieldsFirstRef, item_count};
 ghost use Rattle.std.specs.List.{prefix_len};
 ghost use Rattle.text.specs.Numbers.{number_in, fault_text};
@@ -96,13 +96,14 @@ fn is_number(word: &[u8]) -> bool
     word.iter().all(u8::is_ascii_digit)
 }
 
-// The number that digits spell, or the greatest one where they spell more.
-fn saturated(word: &[u8]) -> u64
-    ensures { result ≡ min (spelled 0 word.now) u64.MAX }
+// The number that digits spell, unless it is above the top.
+fn number_within(word: &[u8], top: u32) -> Option<u32>
+    requires { all_digits word.now ≡ true }
+    ensures { MatchOption result (top < spelled 0 word.now) (λ n. (n ≡ spelled 0 word.now) × (n ≤ top)) }
 {
-    word.iter().fold(0, |n: u64, b| {
-        n.saturating_mul(10)
-            .saturating_add(u64::from(b.saturating_sub(b'0')))
+    word.iter().try_fold(0, |n: u32, b| {
+        let n = u64::from(n) * 10 + u64::from(b.wrapping_sub(b'0'));
+        u32::try_from(n).ok().filter(|n| *n <= top)
     })
 }
 
@@ -113,8 +114,5 @@ pub fn read_number(word: &[u8], top: u32) -> Result<u32, NumberFault>
     if !is_number(word) {
         return Err(NumberFault::NotDigits);
     }
-    u32::try_from(saturated(word))
-        .ok()
-        .filter(|n| *n <= top)
-        .ok_or(NumberFault::AboveTop)
+    number_within(word, top).ok_or(NumberFault::AboveTop)
 }

@@ -7,4 +7,5 @@ pub returns : goal.returns
 returns c =
     let row = c.args.row.now in
     let value = c.div_ceil.ensures ∙ before_ceil (timing_of row.timing) row.apart c.args.x in
-    record { value = value; bound = omega (arith, value, before-le (timing_of row.timing) row.apart c.args.x) }
+    let least = before-le (timing_of row.timing) row.apart c.args.x in
+    record { value = omega (arith, value, least); bound = omega (arith, value, least) }
